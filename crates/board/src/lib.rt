@@ -1,0 +1,2 @@
+// Players, boards and single moves.
+pub mod player;

@@ -1,0 +1,3 @@
+// Why a call is refused, and what a refusal bears.
+pub mod reason;
+pub mod refusal;
