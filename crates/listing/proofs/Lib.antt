@@ -1,0 +1,10 @@
+pub mod Test
+pub mod In
+pub mod Unique
+pub mod Holds
+pub mod Whole
+pub mod Listed
+pub mod Some
+pub mod Showing
+pub mod Fits
+pub mod Collecting
