@@ -1,13 +1,9 @@
 // The listing as a list.
-ghost use mathlib.Core.Path.{_≡_};
-ghost use mathlib.Core.List.{map};
 ghost use Rattle.std.specs.Of.Vec.{vec-items};
 ghost use Rattle.std.specs.Results.{Cases};
 ghost use Rattle.board.specs.Position.{position};
 ghost use Rattle.turns.specs.Roll.{Roll};
-ghost use Rattle.listing.specs.Order.{listed};
-ghost use Rattle.listing.specs.Moves.{movesOf};
-ghost use Rattle.listing.specs.Collecting.{Noted, Unlisted};
+ghost use Rattle.listing.specs.Collecting.{Noted, Holding, Unlisted};
 use crate::collected::Collected;
 use crate::collected::NoListing;
 use crate::turn::Turn;
@@ -34,7 +30,7 @@ pub impl Visit for Collected as CollectedVisit {
 
 // The allowed turns of the roll, in listing order.
 pub fn turns_of(heap: Global, b: &Board, roll: (u8, u8)) -> Result<Vec<Turn>, NoListing>
-    ensures { λ r. ⌜ Cases r (λ v. Roll (roll .0) (roll .1) × (map movesOf (vec-items v) ≡ listed (position (now (b .entry))) (roll .0) (roll .1))) (Unlisted (roll .0) (roll .1)) ⌝ }
+    ensures { λ r. ⌜ Cases r (λ v. Roll (roll .0) (roll .1) × Holding (position (now (b .entry))) (roll .0) (roll .1) (vec-items v)) (Unlisted (roll .0) (roll .1)) ⌝ }
 {
     let none = Collected {
         turns: Vec::new(heap),
