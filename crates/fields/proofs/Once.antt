@@ -27,7 +27,7 @@ undone Fine text back is bytes (Some a) None (fa, ea) none = absurd (none a fa e
 undone Fine text back is bytes (Some a) (Some b) (fa, ea) (fb, eb) = ap Some (sym (is a fa) ∙ ap back (ea ∙ sym eb) ∙ is b fb)
 
 -- the digit at a place
-pub digit-at : List ℕ → ℕ → ℕ
+unfoldable pub digit-at : List ℕ → ℕ → ℕ
 digit-at bs i = getD bs i 0 - 48
 
 pub digit-back : (d : ℕ) → 48 + d - 48 ≡ d

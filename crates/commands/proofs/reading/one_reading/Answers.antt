@@ -1,0 +1,5 @@
+use Rattle.commands.proofs.Apart.{apart}
+use Rattle.commands.proofs.reading.one_reading.Needs as need
+
+pub returns : need.returns
+returns c = apart
