@@ -16,7 +16,7 @@ use Rattle.fields.specs.Exact.{Exact, One-reading, Any}
 use Rattle.fields.specs.Digits.{Fine-digit, digit-text, Fine-dice, dice-text}
 use Rattle.fields.specs.Letters.{letter, letter-text}
 use Rattle.fields.specs.Moves.{Fine-move, move-text, Fine-moves, moves-text}
-use Rattle.fields.specs.Sides.{hex, Fine-count, count-text, Fine-side, side-text, Fine-setting, setting-text}
+use Rattle.fields.specs.Sides.{hex, Fine-count, count-text, Fine-side, side-text, Fine-sides, sides-text, Fine-setting, setting-text}
 use Rattle.fields.proofs.Settings.{Parts, parts}
 
 -- a text that can be undone has one reading
@@ -71,14 +71,21 @@ unfolding back-side
 side-back [] fine = refl
 side-back (d ∷ ds) (small, fine) = rw (count-back d small, side-back ds fine) refl
 
+back-sides : List ℕ → List ℕ × List ℕ
+back-sides bs = (back-side (take 25 bs), back-side (take 25 (drop 26 bs)))
+
+sides-back : (x : List ℕ × List ℕ) → Fine-sides x → back-sides (sides-text x) ≡ x
+unfolding back-sides
+sides-back (w, b) fine =
+    let at = parts (w, b) (sides-text (w, b)) fine refl in
+    rw (sym (at .white), sym (at .black), side-back w (fine .0 .1), side-back b (fine .1 .1)) refl
+
 pub back-setting : List ℕ → Player × List ℕ × List ℕ
-back-setting bs = (who (getD bs 1 0), back-side (take 25 (drop 3 bs)), back-side (take 25 (drop 29 bs)))
+back-setting bs = (who (getD bs 1 0), back-sides (drop 3 bs) .0, back-sides (drop 3 bs) .1)
 
 pub setting-back : (x : Player × List ℕ × List ℕ) → Fine-setting x → back-setting (setting-text x) ≡ x
 unfolding back-setting
-setting-back (p, w, b) fine =
-    let at = parts (p, w, b) (setting-text (p, w, b)) fine refl in
-    rw (who-back p, sym (at .white), sym (at .black), side-back w (fine .0 .1), side-back b (fine .1 .1)) refl
+setting-back (p, w, b) fine = rw (who-back p, sides-back (w, b) fine) refl
 
 pub one-digit : One-reading Fine-digit digit-text
 unfolding digit-at

@@ -3,11 +3,10 @@ use mathlib.Core.Path.{_≡_, refl, sym, _∙_, ap}
 use mathlib.Core.List.{List, [], _∷_, _++_}
 use Prim.Native.Nat.{ℕ, zero, suc, _+_, _-_, _*_, _<_, _≤_}
 use native.Mathlib.Omega.{arith}
-use native.Mathlib.Nat.{mul-suc}
 use lib.ListN.{length, getD, take, drop, set}
 use lib.Seq.{take-add}
 use Rattle.std.specs.shelf.Lists.{All}
-use Rattle.std.proofs.shelf.Lists.{drop-more, take-more-set, joined-more}
+use Rattle.std.proofs.shelf.Lists.{drop-more, take-more-set, take-all, length-take, joined-more}
 use Rattle.std.proofs.shelf.Elements.{all-getD, all-push}
 use Rattle.fields.specs.Moves.{Fine-move, Fine-moves, move-text, moves-text}
 
@@ -45,3 +44,11 @@ moves-more bytes list i n m h k fine is fine-m is-m =
       all-push Fine-move (take i list) m fine fine-m,
       (sym (joined-more move-text [] (take i list) m) ∙ (let is-4 : move-text m ≡ take 4 (drop (4 * i) bytes) = rw k at is-m in cc)),
     )
+
+-- all the moves
+pub moves-done : (bytes : List ℕ) (list : List (ℕ × ℕ)) (i count : ℕ) → count ≡ i → count ≤ 8 → 4 * count ≡ length bytes
+    → All Fine-move (take i list) → moves-text (take i list) ≡ take (4 * i) bytes
+    → Fine-moves (take count list) × (moves-text (take count list) ≡ bytes)
+moves-done bytes list i count end few size fine is =
+    let whole = take-all (4 * i) bytes (omega arith) in
+    rw end ((omega (arith, length-take i list), fine), is ∙ whole)

@@ -1,6 +1,7 @@
 -- The moves of a turn and their text.
 use mathlib.Core.List.{List, _∷_, _++_}
-use Prim.Native.Nat.{ℕ, _<_, _≤_}
+use mathlib.Core.Path.{_≡_}
+use Prim.Native.Nat.{ℕ, _*_, _<_, _≤_}
 use lib.ListN.{take, length}
 use Rattle.std.specs.shelf.Lists.{joined, All}
 use Rattle.std.specs.declared.option.Option.{Option}
@@ -32,3 +33,8 @@ Fine-moves ms = (length ms ≤ 8) × All Fine-move ms
 -- one behind the other
 abbrev pub moves-text : List (ℕ × ℕ) → List ℕ
 moves-text = joined move-text
+
+-- how many moves stand in so many bytes: at most eight, four bytes to each
+abbrev pub Holds : ℕ → Option ℕ → Type 0
+Holds size (Some n) = (n ≤ 8) × (4 * n ≡ size)
+Holds size None = (n : ℕ) → n ≤ 8 → 4 * n ≡ size → ⊥

@@ -32,13 +32,26 @@ Fine-side s = (length s ≡ 25) × All Fine-count s
 abbrev pub side-text : List ℕ → List ℕ
 side-text s = map hex s
 
+-- White's side and Black's
+abbrev pub Fine-sides : List ℕ × List ℕ → Type 0
+Fine-sides x = Fine-side (x .0) × Fine-side (x .1)
+
+-- with a space between them
+abbrev pub sides-text : List ℕ × List ℕ → List ℕ
+sides-text x = side-text (x .0) ++ (32 ∷ side-text (x .1))
+
+-- what an answer of the program stands for
+abbrev pub sides-shown : Option Sides → Option (List ℕ × List ℕ)
+sides-shown (Some s) = Some (s .white, s .black)
+sides-shown None = None
+
 -- a player, White's side and Black's
 abbrev pub Fine-setting : Player × List ℕ × List ℕ → Type 0
-Fine-setting x = Fine-side (x .1) × Fine-side (x .2)
+Fine-setting x = Fine-sides (x .1, x .2)
 
--- each behind a space
+-- the player's letter and the sides, each behind a space
 abbrev pub setting-text : Player × List ℕ × List ℕ → List ℕ
-setting-text x = 32 ∷ letter (x .0) ∷ 32 ∷ (side-text (x .1) ++ (32 ∷ side-text (x .2)))
+setting-text x = 32 ∷ letter (x .0) ∷ 32 ∷ sides-text (x .1, x .2)
 
 -- what an answer of the program stands for
 abbrev pub setting-shown : Option (Player × Sides) → Option (Player × List ℕ × List ℕ)

@@ -1,7 +1,7 @@
 // The moves of a turn, each a start and a die.
 ghost use mathlib.Core.Path.{_≡_};
 ghost use Rattle.fields.specs.Exact.{Exact};
-ghost use Rattle.fields.specs.Moves.{Fine-move, move-text, Fine-moves, moves-text, moves-of, shown};
+ghost use Rattle.fields.specs.Moves.{Fine-move, move-text, Fine-moves, moves-text, moves-of, shown, Holds};
 use crate::digits::digit;
 
 // Up to eight moves: those before `count`, and what stands behind them means nothing.
@@ -41,14 +41,23 @@ pub fn one_move(bytes: &[u8]) -> Option<(u8, u8)>
     Some((10 * tens + ones, die))
 }
 
-// The moves of a turn, four bytes to a move, with nothing behind them.
+// How many moves stand in so many bytes, four to a move.
+fn move_count(size: usize) -> Option<usize>
+    ensures { λ r. ⌜ Holds size r ⌝ }
+{
+    if size > 32 || size % 4 != 0 {
+        return None;
+    }
+    Some(size / 4)
+}
+
+// The moves of a turn, with nothing behind them.
 pub fn read_moves(bytes: &[u8]) -> Option<Moves>
     ensures { λ r. ⌜ Exact Fine-moves moves-text (now (bytes .entry)) (shown r) ⌝ }
 {
-    if bytes.len() > 32 || bytes.len() % 4 != 0 {
+    let Some(count) = move_count(bytes.len()) else {
         return None;
-    }
-    let count = bytes.len() / 4;
+    };
     let mut list = [(0u8, 0u8); 8];
     for i in 0..count {
         let Some(m) = one_move(&bytes[4 * i..4 * i + 4]) else {

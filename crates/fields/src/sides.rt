@@ -1,7 +1,7 @@
 // The sides of a board, a hex digit to a point.
 ghost use mathlib.Core.List.{[], _∷_};
 ghost use Rattle.fields.specs.Exact.{Exact};
-ghost use Rattle.fields.specs.Sides.{Fine-count, count-text, Fine-side, side-text, Fine-setting, setting-text, setting-shown};
+ghost use Rattle.fields.specs.Sides.{Fine-count, count-text, Fine-side, side-text, Fine-sides, sides-text, sides-shown, Fine-setting, setting-text, setting-shown};
 use crate::letters::player_of;
 use board::player::Player;
 
@@ -40,21 +40,37 @@ pub fn side(bytes: &[u8]) -> Option<[u8; 25]>
     Some(counts)
 }
 
-// A player and both sides of a board, White's first.
-pub fn setting(fields: &[u8]) -> Option<(Player, Sides)>
-    ensures { λ r. ⌜ Exact Fine-setting setting-text (now (fields .entry)) (setting-shown r) ⌝ }
+// Both sides of a board, White's first, with a space between them.
+fn both(bytes: &[u8]) -> Option<Sides>
+    ensures { λ r. ⌜ Exact Fine-sides sides-text (now (bytes .entry)) (sides-shown r) ⌝ }
 {
-    if fields.len() != 54 || fields[0] != b' ' || fields[2] != b' ' || fields[28] != b' ' {
+    if bytes.len() != 51 {
         return None;
     }
-    let Some(player) = player_of(fields[1]) else {
+    if bytes[25] != b' ' {
+        return None;
+    }
+    let Some(white) = side(&bytes[0..25]) else {
         return None;
     };
-    let Some(white) = side(&fields[3..28]) else {
+    let Some(black) = side(&bytes[26..51]) else {
         return None;
     };
-    let Some(black) = side(&fields[29..54]) else {
+    Some(Sides { white, black })
+}
+
+// A player and both sides of a board, each behind a space.
+pub fn setting(bytes: &[u8]) -> Option<(Player, Sides)>
+    ensures { λ r. ⌜ Exact Fine-setting setting-text (now (bytes .entry)) (setting-shown r) ⌝ }
+{
+    let [b' ', letter, b' ', rest @ ..] = bytes else {
         return None;
     };
-    Some((player, Sides { white, black }))
+    let Some(player) = player_of(*letter) else {
+        return None;
+    };
+    let Some(sides) = both(rest) else {
+        return None;
+    };
+    Some((player, sides))
 }
