@@ -2,6 +2,7 @@
 ghost use Rattle.fields.specs.Exact.{Exact, One-reading};
 ghost use Rattle.commands.specs.Plays.{Fine-play, play-text, play-shown};
 ghost use Rattle.commands.specs.Forms.{Fine, text, form-of};
+ghost use Rattle.commands.specs.Silence.{Nothing-exactly};
 use crate::command::Command;
 use fields::digits::dice;
 use fields::digits::digit;
@@ -53,9 +54,10 @@ pub fn read_command(bytes: &[u8]) -> Option<Command>
     }
 }
 
-// Two exact readings of the same line are equal; the theorem is in the contract.
+// Two exact readings of the same line are equal, and one that asks for nothing is empty or a comment; the theorems are in the contract.
 pub fn one_reading() -> u8
-    ensures { λ _. ⌜ One-reading Fine text ⌝ }
+    ensures one { λ _. ⌜ One-reading Fine text ⌝ }
+    ensures nothing { λ _. ⌜ Nothing-exactly ⌝ }
 {
     0
 }

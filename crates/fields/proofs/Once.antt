@@ -8,16 +8,15 @@ use lib.Dec.{eqb, ltb}
 use lib.ListN.{getD, drop, take}
 use Rattle.std.specs.shelf.Lists.{All}
 use Rattle.std.proofs.shelf.Ways.{tells}
-use Rattle.std.specs.declared.option.Option.{Option}
 use Rattle.std.specs.declared.option.Option.the-variants.{Some, None}
 use Rattle.board.specs.declared.player.Player.{Player}
 use Rattle.board.specs.declared.player.Player.the-variants.{White, Black}
-use Rattle.fields.specs.Exact.{Exact, One-reading, Any}
+use Rattle.fields.specs.Exact.{One-reading, Any}
 use Rattle.fields.specs.Digits.{Fine-digit, digit-text, Fine-dice, dice-text}
 use Rattle.fields.specs.Letters.{letter, letter-text}
 use Rattle.fields.specs.Moves.{Fine-move, move-text, Fine-moves, moves-text}
 use Rattle.fields.specs.Sides.{hex, Fine-count, count-text, Fine-side, side-text, Fine-sides, sides-text, Fine-setting, setting-text}
-use Rattle.fields.proofs.Settings.{Parts, parts}
+use Rattle.fields.proofs.Settings.{parts}
 
 -- a text that can be undone has one reading
 pub undone : {A : Type 0} (Fine : A → Type 0) (text : A → List ℕ) (back : List ℕ → A) → ((a : A) → Fine a → back (text a) ≡ a) → One-reading Fine text

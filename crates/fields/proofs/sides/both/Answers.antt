@@ -1,4 +1,4 @@
-use Rattle.fields.proofs.Settings.{Parts, parts, whole}
+use Rattle.fields.proofs.Settings.{parts, whole}
 use Rattle.fields.proofs.sides.both.Needs as need
 
 pub returns-then-bytes-ne51 : need.returns-then-bytes-ne51
