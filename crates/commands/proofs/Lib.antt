@@ -1,0 +1,3 @@
+pub mod Behind
+pub mod Apart
+pub mod Nothing

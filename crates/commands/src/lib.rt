@@ -1,0 +1,3 @@
+// The lines that the program turnlist reads.
+pub mod command;
+pub mod reading;

@@ -1,0 +1,5 @@
+pub mod Exact
+pub mod Digits
+pub mod Letters
+pub mod Moves
+pub mod Sides
