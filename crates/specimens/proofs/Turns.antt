@@ -40,19 +40,25 @@ roll = ((lit≤ tt, lit≤ tt), (lit≤ tt, lit≤ tt))
 one-at-most : (ms : List Move) → Run thirteen (rolled 6 5) ms → length ms ≤ 1
 unfolding Ends
 one-at-most ms run =
-    elim (cases-lt 1 (length ms))
-      [ inr k ↦ k
+    elim (cases-lt 1 (length ms)) [
+      | inr k ↦ k
       | inl k ↦
           (let f = run-few thirteen (rolled 6 5) ms run in
           let e : length ms ≡ 2 = omega arith in
           let i : In ms (turns 0 2 thirteen (rolled 6 5)) = holds 0 2 thirteen (rolled 6 5) ms sound run (meets-zero thirteen ms) (omega arith, inl e) in
-          absurd (rw none-of-two at i)) ]
+          absurd (rw none-of-two at i))
+    ]
 
 pub shown : All Stands specimens
-shown =
-    ( (roll, ((lit≤ tt, six, tt), inr (one-at-most, λ _. refl)))
-    , ( smaller thirteen 6 5 ((13, 5) ∷ []) roll (lit≤ tt) (lit≤ tt, five, tt)
-          (λ f. omega (arith, one-at-most (f .1 .0) (f .1 .1), f .1 .2))
-          ((λ f. omega (arith, f .1)), (refl, (λ e. omega (arith, e)), (13, six), (13, five)), (λ e. omega (arith, e)))
-      , ( too-few thirteen 6 5 [] roll (lit≤ tt) tt ((λ f. omega (arith, f .0)), ((13, 6) ∷ [], (lit≤ tt, six, tt), lit≤ tt))
-        , tt ) ) )
+shown = (
+  (roll, ((lit≤ tt, six, tt), inr (one-at-most, λ _. refl))),
+  (
+    smaller thirteen 6 5 ((13, 5) ∷ []) roll (lit≤ tt) (lit≤ tt, five, tt)
+        (λ f. omega (arith, one-at-most (f .1 .0) (f .1 .1), f .1 .2))
+        ((λ f. omega (arith, f .1)), (refl, (λ e. omega (arith, e)), (13, six), (13, five)), (λ e. omega (arith, e))),
+    (
+      too-few thirteen 6 5 [] roll (lit≤ tt) tt ((λ f. omega (arith, f .0)), ((13, 6) ∷ [], (lit≤ tt, six, tt), lit≤ tt)),
+      tt,
+    ),
+  ),
+)

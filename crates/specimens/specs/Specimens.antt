@@ -21,7 +21,7 @@ thirteen = placed (only 1 13) (only 2 23)
 -- with 6-5 either die can be played and not both: the 6 is due
 abbrev pub specimens : List Specimen
 specimens =
-  turn thirteen 6 5 ((13, 6) ∷ []) allowed
+    turn thirteen 6 5 ((13, 6) ∷ []) allowed
     ∷ turn thirteen 6 5 ((13, 5) ∷ []) (refused (plain SmallerDie))
     ∷ turn thirteen 6 5 [] (refused (plain TooFewDice))
     ∷ []

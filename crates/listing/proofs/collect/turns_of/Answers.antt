@@ -18,10 +18,11 @@ returns c =
     let shown = c .in-Ok .ensures tt in
     let all = all-collected (position b) _ (c .in-Ok .all) (listed (position b) x y) (shown .1) (c .if-short .left) in
     let same : map movesOf (vec-items (c .in-Ok .all .turns)) ≡ listed (position b) x y =
-        all .1 ∙ ap (λ xs. map movesOf xs ++ listed (position b) x y) (c .new .ensures .items)
-    in
-    ( shown .0
-    , record {
+    all .1 ∙ ap (λ xs. map movesOf xs ++ listed (position b) x y) (c .new .ensures .items)
+    in (
+      shown .0,
+      record {
         listed = same;
         listing = subst (Listing (position b) x y) (sym same) (listed-is (position b) x y (record { long = b .long; complete = b .complete }));
-      } )
+      },
+    )
