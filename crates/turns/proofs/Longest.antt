@@ -75,5 +75,5 @@ move-tried b after dice rest d s best r top w m most few is f =
     (rw is (start-played (position b) (dice .left) d s best r (w .has) (m .0) behind (f .0)), omega (arith, w .fewer, f .1))
 
 -- a run that uses all dice is a longest one
-pub all-used : (d s : ℕ) (b : Position) (dice : List ℕ) (r : ℕ) → r ≡ sum dice → SoFar d s b dice r → Most b dice r
-all-used d s b dice r e f = record { some = f .some; none = λ ms run. omega (arith, run-few b dice ms run) }
+pub most-of-all : (d s : ℕ) (b : Position) (dice : List ℕ) (r : ℕ) → r ≡ sum dice → SoFar d s b dice r → Most b dice r
+most-of-all d s b dice r e f = record { some = f .some; none = λ ms run. omega (arith, run-few b dice ms run) }

@@ -26,9 +26,13 @@ MoveByMove n b dice (m ∷ ms) rest =
     (Refuse (Legal b (m .0) (m .1) → ⊥) (atMove IllegalMove n)
     (MoveByMove (suc n) (moved b (m .0) (m .1)) (less dice (m .1)) ms rest))
 
--- a run that does not bear off the last checker uses too few dice where some run uses more
+-- some run uses more dice than the turn
+abbrev pub Longer : Position → List ℕ → List Move → Type 0
+Longer b dice turn = (ms : List Move) × Run b dice ms × (length turn < length ms)
+
+-- a run that does not bear off the last checker uses too few dice
 abbrev pub TooFew : Position → ℕ → ℕ → List Move → Type 0
-TooFew b x y turn = (Finishes b turn → ⊥) × ((ms : List Move) × Run b (rolled x y) ms × (length turn < length ms))
+TooFew b x y turn = (Finishes b turn → ⊥) × Longer b (rolled x y) turn
 
 -- it uses the smaller die where it could be either and not both
 abbrev pub Smaller : Position → ℕ → ℕ → List Move → Type 0

@@ -2,12 +2,13 @@
 ghost use mathlib.Core.Path.{_≡_};
 ghost use Prim.Native.Nat.{_<_};
 ghost use lib.ListN.{length};
-ghost use Rattle.std.specs.Orderings.{Decides};
+ghost use Rattle.std.specs.Orderings.{Decides, When};
 ghost use Rattle.std.specs.Results.{isOk};
 ghost use Rattle.board.specs.Side.{on, checkers};
 ghost use Rattle.board.specs.Position.{position};
 ghost use Rattle.turns.specs.Roll.{Roll};
-ghost use Rattle.turns.specs.Turns.{Allowed};
+ghost use Rattle.turns.specs.Turns.{Allowed, AsMany, Larger};
+ghost use Rattle.turns.specs.Refused.{Longer};
 ghost use Rattle.turns.specs.Checked.{Walked, Checked};
 use crate::dice::Dice;
 use crate::most::most;
@@ -50,6 +51,20 @@ fn finished(turn: &[(u8, u8)], after: &Board) -> bool
     turn.len() > 0 && after.own[0] == CHECKERS
 }
 
+// Whether some run uses more dice than the turn.
+fn too_few(b: &Board, dice: &Dice, turn: &[(u8, u8)]) -> bool
+    ensures { λ r. ⌜ When r (Longer (position (now (b .entry))) (now (dice .entry) .left) (now (turn .entry))) (AsMany (position (now (b .entry))) (now (dice .entry) .left) (now (turn .entry))) ⌝ }
+{
+    turn.len() < most(b, dice)
+}
+
+// Whether a turn is one move, by the smaller of two different dice.
+fn smaller_used(roll: (u8, u8), turn: &[(u8, u8)]) -> bool
+    ensures { λ r. ⌜ Decides r ((length (now (turn .entry)) ≡ 1) × (roll .0 ≡ roll .1 → ⊥) × (Larger (roll .0) (roll .1) (now (turn .entry)) → ⊥)) ⌝ }
+{
+    turn.len() == 1 && roll.0 != roll.1 && turn[0].1 != roll.0.max(roll.1)
+}
+
 fn judged(b: &Board, roll: (u8, u8), turn: &[(u8, u8)]) -> Result<Board, Refusal>
     ensures { λ r. ⌜ Checked (position (now (b .entry))) (roll .0) (roll .1) (now (turn .entry)) r ⌝ }
 {
@@ -61,14 +76,11 @@ fn judged(b: &Board, roll: (u8, u8), turn: &[(u8, u8)]) -> Result<Board, Refusal
     if finished(turn, &after) {
         return Ok(after);
     }
-    if turn.len() < most(b, &dice) {
+    if too_few(b, &dice, turn) {
         return Err(Refusal::plain(Reason::TooFewDice));
     }
-    let (x, y) = roll;
-    if turn.len() == 1 && x != y && turn[0].1 != x.max(y) {
-        if playable(b, x) && playable(b, y) {
-            return Err(Refusal::plain(Reason::SmallerDie));
-        }
+    if smaller_used(roll, turn) && playable(b, roll.0) && playable(b, roll.1) {
+        return Err(Refusal::plain(Reason::SmallerDie));
     }
     Ok(after)
 }

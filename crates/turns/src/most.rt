@@ -10,6 +10,13 @@ use board::board::Board;
 use board::single::legal;
 use board::single::make;
 
+// Whether no run can use more dice.
+fn all_used(best: usize, dice: &Dice) -> bool
+    ensures { λ r. ⌜ Decides r (best ≡ now (dice .entry) .count) ⌝ }
+{
+    best == dice.count
+}
+
 // The most dice that a run on the board can use.
 pub fn most(b: &Board, dice: &Dice) -> usize
     ensures most { λ r. ⌜ Most (position (now (b .entry))) (now (dice .entry) .left) r ⌝ }
@@ -25,7 +32,7 @@ pub fn most(b: &Board, dice: &Dice) -> usize
                 continue;
             };
             best = best.max(1 + most(&after, &rest));
-            if best == dice.count {
+            if all_used(best, dice) {
                 return best;
             }
         }

@@ -1,5 +1,5 @@
 use native.Mathlib.Omega.{arith}
-use mathlib.Core.Path.{_≡_, sym, _∙_}
+use mathlib.Core.Path.{_≡_}
 use Prim.Native.Nat.{ℕ, _≤_}
 use Rattle.std.specs.shelf.Lists.{sum}
 use Rattle.std.proofs.shelf.Results.{err-from-errBy}
@@ -21,24 +21,23 @@ returns-in-Break-after c =
     (stopped _ (c .args .roll .0) (c .args .roll .1) _ (d .0) (counted (c .in-Continue-dice .dice) (c .args .roll .0) (c .args .roll .1) _ (d .1) (c .if-turn-dice .left)) _
     (rw (d .1) at (c .in-Break-after .ensures tt)))
 
-pub returns-then-turn-most : need.returns-then-turn-most
-returns-then-turn-most c =
+pub returns-then-too-few : need.returns-then-too-few
+returns-then-too-few c =
     let d = c .in-Continue-dice .ensures tt in
     let w = rw (d .1) at (c .in-Continue-after .ensures tt) in
-    let m = rw (d .1) at (c .most .ensures .most .some) in
-    rw (c .plain-then-turn-most .ensures)
-    (too-few _ (c .args .roll .0) (c .args .roll .1) _ (d .0) (counted (c .in-Continue-dice .dice) (c .args .roll .0) (c .args .roll .1) _ (d .1) (c .if-turn-dice .left)) (w .0)
-    (not-finished _ _ (c .in-Continue-after .after) (w .1) (not-from-decides _ (c .finished .ensures) (c .if-finished .left)), (m .0, m .1, omega (arith, m .2))))
+    rw (c .plain-then-too-few .ensures)
+      (too-few _ (c .args .roll .0) (c .args .roll .1) _ (d .0) (counted (c .in-Continue-dice .dice) (c .args .roll .0) (c .args .roll .1) _ (d .1) (c .if-turn-dice .left)) (w .0)
+        (not-finished _ _ (c .in-Continue-after .after) (w .1) (not-from-decides _ (c .finished .ensures) (c .if-finished .left)), (rw (d .1) at (c .if-too-few .ensures tt))))
 
 pub returns-then-playable-2 : need.returns-then-playable-2
 returns-then-playable-2 c =
     let d = c .in-Continue-dice .ensures tt in
     let w = rw (d .1) at (c .in-Continue-after .ensures tt) in
-    let m = rw (d .1) at (c .most .ensures .most .none) in
+    let full = rw (d .1) at (c .if-too-few .ensures tt) in
+    let one = c .smaller-used .ensures .0 (c .if-smaller-used .taken) in
     rw (c .plain-then-playable-2 .ensures)
-    (smaller _ (c .args .roll .0) (c .args .roll .1) _ (d .0) (counted (c .in-Continue-dice .dice) (c .args .roll .0) (c .args .roll .1) _ (d .1) (c .if-turn-dice .left)) (w .0)
-    (λ f. omega (arith, m (f .1 .0) (f .1 .1), f .1 .2)) (
-      not-finished _ _ (c .in-Continue-after .after) (w .1) (not-from-decides _ (c .finished .ensures) (c .if-finished .left)),
-      (c .if-turn-eq1 .taken, c .if-x-y .taken, c .playable .ensures .0 (c .if-playable .taken), c .playable-then-playable .ensures .0 (c .if-playable-2 .taken)),
-      λ e. c .if-turn-max .taken (e ∙ sym (c .max .ensures)),
-    ))
+      (smaller _ (c .args .roll .0) (c .args .roll .1) _ (d .0) (counted (c .in-Continue-dice .dice) (c .args .roll .0) (c .args .roll .1) _ (d .1) (c .if-turn-dice .left)) (w .0)
+        (λ f. omega (arith, full (f .1 .0) (f .1 .1), f .1 .2))
+        ( not-finished _ _ (c .in-Continue-after .after) (w .1) (not-from-decides _ (c .finished .ensures) (c .if-finished .left))
+        , (one .0, one .1, c .playable .ensures .0 (c .if-playable .taken), c .playable-then-playable .ensures .0 (c .if-playable-2 .taken))
+        , one .2 ))
