@@ -1,0 +1,4 @@
+pub mod Fraction
+pub mod Sums
+pub mod Rules
+pub mod Held
