@@ -1,2 +1,4 @@
+pub mod Admitted
+pub mod Chosen
 pub mod Fractions
 pub mod Ranges

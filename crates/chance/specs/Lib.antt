@@ -1,4 +1,5 @@
+pub mod Choose
 pub mod Fraction
-pub mod Sums
-pub mod Rules
 pub mod Held
+pub mod Rules
+pub mod Sums

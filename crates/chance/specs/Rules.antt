@@ -5,18 +5,18 @@ use Rattle.chance.specs.Fraction.{Fraction, Holds, nothing, whole, rest, great
 use Rattle.chance.specs.Sums.{Fits}
 
 pub record Rules {V S R : Type 0}
-  (scale grain reach : ℕ)
-  (lower upper age : V → ℕ)
-  (lost won : V)
-  (turned : V → V)
-  (better : V → V → V)
-  (weight oldest : S → ℕ)
-  (held : S → Fraction → Type 0)
-  (empty : S)
-  (added : S → ℕ → V → S)
-  (closed : S → V)
-  (written : V → R)
-  (unwritten : R → V) : Type 0 where
+    (scale grain reach : ℕ)
+    (lower upper age : V → ℕ)
+    (lost won : V)
+    (turned : V → V)
+    (better : V → V → V)
+    (weight oldest : S → ℕ)
+    (held : S → Fraction → Type 0)
+    (empty : S)
+    (added : S → ℕ → V → S)
+    (closed : S → V)
+    (written : V → R)
+    (unwritten : R → V) : Type 0 where
   -- the scale is from 1 to 36^11, the grain 0 or 1, the reach from 1 to 60
   pub some-scale : 1 ≤ scale
   pub scale-fits : scale ≤ 36 ^ 11

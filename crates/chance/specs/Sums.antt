@@ -1,6 +1,7 @@
 -- When a sum takes a weight, when it can be closed, and what is answered.
 use Prim.Native.Nat.{ℕ, _+_, _≤_, _<_}
 use mathlib.Core.Path.{_≡_}
+use native.Mathlib.Decide.{decLe, decLt}
 use Rattle.std.specs.declared.result.Result.{Result}
 use Rattle.std.specs.declared.result.Result.the-variants.{Ok, Err}
 use Rattle.refusals.specs.declared.refusal.Refusal.{Refusal}
@@ -11,6 +12,12 @@ use Rattle.refusals.specs.Fields.{plain}
 pub record Fits (t w : ℕ) : Type 0 where
   pub some : 0 < w
   pub room : t + w ≤ 36
+
+unfoldable pub fits? : (t w : ℕ) → Dec (Fits t w)
+fits? t w = elim (decLt 0 w) [
+  | yes some ↦ elim (decLe (t + w) 36) [ yes room ↦ yes (record { some = some; room = room }) | no past ↦ no (λ h. past (h .room)) ]
+  | no none ↦ no (λ h. none (h .some))
+]
 
 -- what adding a weight of w to a sum of weight t is answered
 pub record Admits (t w : ℕ) (r : Result (Unit {0}) Refusal) : Type 0 where

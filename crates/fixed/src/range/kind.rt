@@ -1,0 +1,232 @@
+ghost use mathlib.Core.Path.{_≡_};
+ghost use Prim.Native.Nat.{_+_, _-_, _*_, _/_, _≤_, _<_};
+ghost use Rattle.std.specs.Orderings.{Decides};
+ghost use Rattle.chance.specs.Sums.{Fits};
+ghost use Rattle.fixed.specs.Sound.{fixed-scale, fixed-reach, Sound};
+ghost use Rattle.fixed.specs.Range.{fixed-lost, fixed-won, fixed-turned, fixed-better, fixed-empty, fixed-added, fixed-closed, fixed-held, fixed-written, fixed-unwritten};
+ghost use Rattle.fixed.specs.Kept.{fixed-rules};
+use super::Fixed;
+use super::FixedRow;
+use super::FixedSum;
+use chance::kind::Chance;
+use chance::number::Is;
+use chance::number::IsNumber;
+use chance::sums::admit;
+use chance::sums::closable;
+use refusals::refusal::Refusal;
+
+const SCALE: u64 = 1_000_000_000;
+
+const REACH: u64 = 60;
+
+const WHOLE: u32 = 1_000_000_000;
+
+// What is left of the scale above an end.
+fn above(end: u32) -> u32
+    requires { ⌜ end ≤ fixed-scale ⌝ }
+    ensures { λ r. ⌜ r ≡ fixed-scale - end ⌝ }
+{
+    WHOLE - end
+}
+
+// A total with an end added by its weight.
+fn weighted(total: u64, by: u64, end: u32) -> u64
+    requires sum { ⌜ total ≤ 36 * fixed-scale ⌝ }
+    requires few { ⌜ by ≤ 36 ⌝ }
+    requires within { ⌜ end ≤ fixed-scale ⌝ }
+    ensures { λ r. ⌜ r ≡ total + by * end ⌝ }
+{
+    total + by * end as u64
+}
+
+// A mean of 36, rounded down.
+fn mean_down(total: u64) -> u32
+    requires { ⌜ total ≤ 36 * fixed-scale ⌝ }
+    ensures { λ r. ⌜ r ≡ total / 36 ⌝ }
+{
+    (total / 36) as u32
+}
+
+// A mean of 36, rounded up.
+fn mean_up(total: u64) -> u32
+    requires { ⌜ total ≤ 36 * fixed-scale ⌝ }
+    ensures { λ r. ⌜ r ≡ (total + 35) / 36 ⌝ }
+{
+    ((total + 35) / 36) as u32
+}
+
+// Whether a value writes the row.
+fn sound(from: FixedRow) -> bool
+    ensures { λ r. ⌜ Decides r (Sound (from .lower) (from .upper) (from .age)) ⌝ }
+{
+    from.lower <= from.upper
+        && from.upper <= WHOLE
+        && from.upper - from.lower <= from.age as u32
+        && from.age as u64 <= REACH
+}
+
+// The sum with a value added by a weight that fits.
+fn joined(sum: &FixedSum, by: u64, value: Fixed) -> FixedSum
+    requires { ⌜ Fits (now sum .weight) by ⌝ }
+    ensures { λ r. ⌜ r ≡ fixed-added (now (sum .entry)) by value ⌝ }
+{
+    FixedSum {
+        lower: weighted(sum.lower, by, value.lower),
+        upper: weighted(sum.upper, by, value.upper),
+        weight: sum.weight + by,
+        age: sum.age.max(value.age),
+    }
+}
+
+// The mean of a sum that is not too old.
+fn mean(sum: &FixedSum) -> Fixed
+    requires { ⌜ now sum .age < fixed-reach ⌝ }
+    ensures { λ r. ⌜ r ≡ fixed-closed (now (sum .entry)) ⌝ }
+{
+    Fixed {
+        lower: mean_down(sum.lower),
+        upper: mean_up(sum.upper),
+        age: sum.age + 1,
+    }
+}
+
+pub impl Chance for Fixed as FixedChance {
+    type Sum = FixedSum;
+
+    type Row = FixedRow;
+
+    type Scale = Is<SCALE>;
+
+    type Grain = Is<1>;
+
+    type Reach = Is<REACH>;
+
+    const SCALE: Is<SCALE> = Is;
+
+    const GRAIN: Is<1> = Is;
+
+    const REACH: Is<REACH> = Is;
+
+    ghost scale = { fixed-scale };
+
+    ghost grain = { 1 };
+
+    ghost reach = { fixed-reach };
+
+    ghost lower = { λ x. x .lower };
+
+    ghost upper = { λ x. x .upper };
+
+    ghost age = { λ x. x .age };
+
+    ghost lost = { fixed-lost };
+
+    ghost won = { fixed-won };
+
+    ghost turned = { fixed-turned };
+
+    ghost better = { fixed-better };
+
+    ghost weight = { λ s. s .weight };
+
+    ghost oldest = { λ s. s .age };
+
+    ghost held = { fixed-held };
+
+    ghost empty = { fixed-empty };
+
+    ghost added = { fixed-added };
+
+    ghost closed = { fixed-closed };
+
+    ghost written = { fixed-written };
+
+    ghost unwritten = { fixed-unwritten };
+
+    ghost rules = { fixed-rules };
+
+    fn ends(self) -> (u64, u64, u64) {
+        (self.lower as u64, self.upper as u64, self.age as u64)
+    }
+
+    fn lost() -> Fixed {
+        Fixed {
+            lower: 0,
+            upper: 0,
+            age: 0,
+        }
+    }
+
+    fn won() -> Fixed {
+        Fixed {
+            lower: WHOLE,
+            upper: WHOLE,
+            age: 0,
+        }
+    }
+
+    fn turned(self) -> Fixed {
+        Fixed {
+            lower: above(self.upper),
+            upper: above(self.lower),
+            age: self.age,
+        }
+    }
+
+    fn better(self, other: Fixed) -> Fixed {
+        Fixed {
+            lower: self.lower.max(other.lower),
+            upper: self.upper.max(other.upper),
+            age: self.age.max(other.age),
+        }
+    }
+
+    fn empty() -> FixedSum {
+        FixedSum {
+            lower: 0,
+            upper: 0,
+            weight: 0,
+            age: 0,
+        }
+    }
+
+    fn add(sum: &mut FixedSum, by: u64, value: Fixed) -> Result<(), Refusal> {
+        match admit(sum.weight, by) {
+            Ok(()) => {
+                *sum = joined(sum, by, value);
+                Ok(())
+            }
+            Err(refusal) => Err(refusal),
+        }
+    }
+
+    fn close(sum: &mut FixedSum) -> Result<Fixed, Refusal> {
+        match closable(sum.weight, sum.age as u64, REACH) {
+            Ok(()) => {
+                let value = mean(sum);
+                *sum = Self::empty();
+                Ok(value)
+            }
+            Err(refusal) => Err(refusal),
+        }
+    }
+
+    fn write_row(self) -> FixedRow {
+        FixedRow {
+            lower: self.lower,
+            upper: self.upper,
+            age: self.age,
+        }
+    }
+
+    fn read_row(from: FixedRow) -> Fixed {
+        if !sound(from) {
+            return Self::lost();
+        }
+        Fixed {
+            lower: from.lower,
+            upper: from.upper,
+            age: from.age,
+        }
+    }
+}
