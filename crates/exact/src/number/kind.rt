@@ -1,13 +1,19 @@
 ghost use mathlib.Core.Path.{_≡_};
-ghost use Prim.Native.Nat.{_+_, _-_, _*_, _/_, _^_, _≤_, _<_};
-ghost use Rattle.std.specs.Orderings.{Decides};
+ghost use Prim.Native.Nat.{_<_};
 ghost use Rattle.chance.specs.Sums.{Fits};
-ghost use Rattle.exact.specs.Sound.{exact-scale, exact-reach, unit-of, Sound};
+ghost use Rattle.exact.specs.Sound.{exact-scale, exact-reach};
 ghost use Rattle.exact.specs.Number.{exact-lost, exact-won, exact-turned, exact-better, exact-empty, exact-added, exact-closed, exact-held, exact-written, exact-unwritten};
 ghost use Rattle.exact.specs.Kept.{exact-rules};
 use super::Exact;
 use super::ExactRow;
 use super::ExactSum;
+use crate::units::SCALE;
+use crate::units::above;
+use crate::units::greater;
+use crate::units::mean_of;
+use crate::units::older;
+use crate::units::sound;
+use crate::units::weighted;
 use chance::kind::Chance;
 use chance::number::Is;
 use chance::number::IsNumber;
@@ -15,46 +21,7 @@ use chance::sums::admit;
 use chance::sums::closable;
 use refusals::refusal::Refusal;
 
-// 36^11
-const SCALE: u64 = 131_621_703_842_267_136;
-
 const REACH: u64 = 11;
-
-// What is left of the scale above a number.
-fn above(number: u64) -> u64
-    requires { ⌜ number ≤ exact-scale ⌝ }
-    ensures { λ r. ⌜ r ≡ exact-scale - number ⌝ }
-{
-    SCALE - number
-}
-
-// A total with a number added by its weight.
-fn weighted(total: u64, by: u64, number: u64) -> u64
-    requires sum { ⌜ total ≤ 36 * exact-scale ⌝ }
-    requires few { ⌜ by ≤ 36 ⌝ }
-    requires within { ⌜ number ≤ exact-scale ⌝ }
-    ensures { λ r. ⌜ r ≡ total + by * number ⌝ }
-{
-    total + by * number
-}
-
-// 36^(11 - age)
-fn unit(age: u8) -> u64
-    requires { ⌜ age ≤ exact-reach ⌝ }
-    ensures { λ r. ⌜ r ≡ unit-of age ⌝ }
-{
-    36u64.pow(11 - age as u32)
-}
-
-// Whether a value writes the row.
-fn sound(from: ExactRow) -> bool
-    ensures { λ r. ⌜ Decides r (Sound (from .number) (from .age)) ⌝ }
-{
-    if from.number > SCALE || from.age as u64 > REACH {
-        return false;
-    }
-    from.number % unit(from.age) == 0
-}
 
 // The sum with a value added by a weight that fits.
 fn joined(sum: &ExactSum, by: u64, value: Exact) -> ExactSum
@@ -64,7 +31,7 @@ fn joined(sum: &ExactSum, by: u64, value: Exact) -> ExactSum
     ExactSum {
         number: weighted(sum.number, by, value.number),
         weight: sum.weight + by,
-        age: sum.age.max(value.age),
+        age: older(sum.age, value.age),
     }
 }
 
@@ -74,7 +41,7 @@ fn mean(sum: &ExactSum) -> Exact
     ensures { λ r. ⌜ r ≡ exact-closed (now (sum .entry)) ⌝ }
 {
     Exact {
-        number: sum.number / 36,
+        number: mean_of(sum.number),
         age: sum.age + 1,
     }
 }
@@ -158,8 +125,8 @@ pub impl Chance for Exact as ExactChance {
 
     fn better(self, other: Exact) -> Exact {
         Exact {
-            number: self.number.max(other.number),
-            age: self.age.max(other.age),
+            number: greater(self.number, other.number),
+            age: older(self.age, other.age),
         }
     }
 
@@ -200,7 +167,7 @@ pub impl Chance for Exact as ExactChance {
     }
 
     fn read_row(from: ExactRow) -> Exact {
-        if !sound(from) {
+        if !sound(from.number, from.age) {
             return Self::lost();
         }
         Exact {

@@ -1,13 +1,20 @@
 ghost use mathlib.Core.Path.{_≡_};
-ghost use Prim.Native.Nat.{_+_, _-_, _*_, _/_, _≤_, _<_};
-ghost use Rattle.std.specs.Orderings.{Decides};
+ghost use Prim.Native.Nat.{_≤_, _<_};
 ghost use Rattle.chance.specs.Sums.{Fits};
-ghost use Rattle.fixed.specs.Sound.{fixed-scale, fixed-reach, Sound};
+ghost use Rattle.fixed.specs.Sound.{fixed-scale, fixed-reach};
 ghost use Rattle.fixed.specs.Range.{fixed-lost, fixed-won, fixed-turned, fixed-better, fixed-empty, fixed-added, fixed-closed, fixed-held, fixed-written, fixed-unwritten};
 ghost use Rattle.fixed.specs.Kept.{fixed-rules};
 use super::Fixed;
 use super::FixedRow;
 use super::FixedSum;
+use crate::ends::WHOLE;
+use crate::ends::better_ends;
+use crate::ends::mean_down;
+use crate::ends::mean_up;
+use crate::ends::older;
+use crate::ends::sound;
+use crate::ends::turned_ends;
+use crate::ends::weighted;
 use chance::kind::Chance;
 use chance::number::Is;
 use chance::number::IsNumber;
@@ -19,50 +26,18 @@ const SCALE: u64 = 1_000_000_000;
 
 const REACH: u64 = 60;
 
-const WHOLE: u32 = 1_000_000_000;
-
-// What is left of the scale above an end.
-fn above(end: u32) -> u32
+// A range of one number, of age 0.
+fn certain(end: u32) -> Fixed
     requires { ⌜ end ≤ fixed-scale ⌝ }
-    ensures { λ r. ⌜ r ≡ fixed-scale - end ⌝ }
+    ensures low { λ r. ⌜ r .lower ≡ end ⌝ }
+    ensures high { λ r. ⌜ r .upper ≡ end ⌝ }
+    ensures new { λ r. ⌜ r .age ≡ 0 ⌝ }
 {
-    WHOLE - end
-}
-
-// A total with an end added by its weight.
-fn weighted(total: u64, by: u64, end: u32) -> u64
-    requires sum { ⌜ total ≤ 36 * fixed-scale ⌝ }
-    requires few { ⌜ by ≤ 36 ⌝ }
-    requires within { ⌜ end ≤ fixed-scale ⌝ }
-    ensures { λ r. ⌜ r ≡ total + by * end ⌝ }
-{
-    total + by * end as u64
-}
-
-// A mean of 36, rounded down.
-fn mean_down(total: u64) -> u32
-    requires { ⌜ total ≤ 36 * fixed-scale ⌝ }
-    ensures { λ r. ⌜ r ≡ total / 36 ⌝ }
-{
-    (total / 36) as u32
-}
-
-// A mean of 36, rounded up.
-fn mean_up(total: u64) -> u32
-    requires { ⌜ total ≤ 36 * fixed-scale ⌝ }
-    ensures { λ r. ⌜ r ≡ (total + 35) / 36 ⌝ }
-{
-    ((total + 35) / 36) as u32
-}
-
-// Whether a value writes the row.
-fn sound(from: FixedRow) -> bool
-    ensures { λ r. ⌜ Decides r (Sound (from .lower) (from .upper) (from .age)) ⌝ }
-{
-    from.lower <= from.upper
-        && from.upper <= WHOLE
-        && from.upper - from.lower <= from.age as u32
-        && from.age as u64 <= REACH
+    Fixed {
+        lower: end,
+        upper: end,
+        age: 0,
+    }
 }
 
 // The sum with a value added by a weight that fits.
@@ -74,7 +49,7 @@ fn joined(sum: &FixedSum, by: u64, value: Fixed) -> FixedSum
         lower: weighted(sum.lower, by, value.lower),
         upper: weighted(sum.upper, by, value.upper),
         weight: sum.weight + by,
-        age: sum.age.max(value.age),
+        age: older(sum.age, value.age),
     }
 }
 
@@ -150,34 +125,28 @@ pub impl Chance for Fixed as FixedChance {
     }
 
     fn lost() -> Fixed {
-        Fixed {
-            lower: 0,
-            upper: 0,
-            age: 0,
-        }
+        certain(0)
     }
 
     fn won() -> Fixed {
-        Fixed {
-            lower: WHOLE,
-            upper: WHOLE,
-            age: 0,
-        }
+        certain(WHOLE)
     }
 
     fn turned(self) -> Fixed {
+        let (lower, upper) = turned_ends(self.lower, self.upper);
         Fixed {
-            lower: above(self.upper),
-            upper: above(self.lower),
+            lower,
+            upper,
             age: self.age,
         }
     }
 
     fn better(self, other: Fixed) -> Fixed {
+        let (lower, upper) = better_ends((self.lower, self.upper), (other.lower, other.upper));
         Fixed {
-            lower: self.lower.max(other.lower),
-            upper: self.upper.max(other.upper),
-            age: self.age.max(other.age),
+            lower,
+            upper,
+            age: older(self.age, other.age),
         }
     }
 
@@ -220,7 +189,7 @@ pub impl Chance for Fixed as FixedChance {
     }
 
     fn read_row(from: FixedRow) -> Fixed {
-        if !sound(from) {
+        if !sound(from.lower, from.upper, from.age) {
             return Self::lost();
         }
         Fixed {

@@ -1,6 +1,6 @@
 use native.Mathlib.Omega.{arith}
 use native.Mathlib.Nat.{mul-le-mul}
-use Rattle.fixed.proofs.range.kind.weighted.Needs as need
+use Rattle.fixed.proofs.ends.weighted.Needs as need
 
 -- at most 72 × 1,000,000,000
 pub add-result : need.add-result

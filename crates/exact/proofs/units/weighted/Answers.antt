@@ -1,6 +1,6 @@
 use native.Mathlib.Omega.{arith}
 use native.Mathlib.Nat.{mul-le-mul}
-use Rattle.exact.proofs.number.kind.weighted.Needs as need
+use Rattle.exact.proofs.units.weighted.Needs as need
 
 -- at most 72 × 36^11
 pub add-result : need.add-result

@@ -1,7 +1,7 @@
 use Prim.Native.Nat.{_-_, _^_, _≤_}
 use native.Mathlib.Omega.{arith}
 use native.Mathlib.Nat.{pow-le-pow-right}
-use Rattle.exact.proofs.number.kind.unit.Needs as need
+use Rattle.exact.proofs.units.unit.Needs as need
 
 -- at most 36^11
 pub pow-requires : need.pow-requires
