@@ -1,4 +1,6 @@
-// When a sum takes a weight, and when it can be closed: the same for every kind.
+// When a sum takes a weight, when it can be closed, and the age that it keeps: the same for every kind.
+ghost use mathlib.Core.Path.{_≡_};
+ghost use Prim.Native.Nat.{max};
 ghost use Rattle.chance.specs.Sums.{Admits, Closable};
 use refusals::reason::Reason;
 use refusals::refusal::Refusal;
@@ -24,4 +26,11 @@ pub fn closable(weight: u64, oldest: u64, reach: u64) -> Result<(), Refusal>
         return Err(Refusal::plain(Reason::SumTooOld));
     }
     Ok(())
+}
+
+// The greater of two ages.
+pub fn older(a: u8, b: u8) -> u8
+    ensures { λ r. ⌜ r ≡ max a b ⌝ }
+{
+    a.max(b)
 }

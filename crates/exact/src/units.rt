@@ -1,6 +1,6 @@
 // Reckoning with exact numbers.
 ghost use mathlib.Core.Path.{_≡_};
-ghost use Prim.Native.Nat.{_+_, _-_, _*_, _/_, _≤_, max};
+ghost use Prim.Native.Nat.{_+_, _-_, _*_, _≤_, max};
 ghost use Rattle.std.specs.Orderings.{Decides};
 ghost use Rattle.exact.specs.Sound.{exact-scale, exact-reach, unit-of, Sound};
 
@@ -22,13 +22,6 @@ pub(crate) fn greater(a: u64, b: u64) -> u64
     a.max(b)
 }
 
-// The greater of two ages.
-pub(crate) fn older(a: u8, b: u8) -> u8
-    ensures { λ r. ⌜ r ≡ max a b ⌝ }
-{
-    a.max(b)
-}
-
 // A total with a number added by its weight.
 pub(crate) fn weighted(total: u64, by: u64, number: u64) -> u64
     requires sum { ⌜ total ≤ 36 * exact-scale ⌝ }
@@ -36,14 +29,7 @@ pub(crate) fn weighted(total: u64, by: u64, number: u64) -> u64
     requires within { ⌜ number ≤ exact-scale ⌝ }
     ensures { λ r. ⌜ r ≡ total + by * number ⌝ }
 {
-    total + by * number
-}
-
-// A mean of 36.
-pub(crate) fn mean_of(total: u64) -> u64
-    ensures { λ r. ⌜ r ≡ total / 36 ⌝ }
-{
-    total / 36
+    by * number + total
 }
 
 // The step between the numbers of an age.

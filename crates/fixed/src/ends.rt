@@ -21,13 +21,6 @@ pub(crate) fn better_ends(a: (u32, u32), b: (u32, u32)) -> (u32, u32)
     (a.0.max(b.0), a.1.max(b.1))
 }
 
-// The greater of two ages.
-pub(crate) fn older(a: u8, b: u8) -> u8
-    ensures { λ r. ⌜ r ≡ max a b ⌝ }
-{
-    a.max(b)
-}
-
 // A total with an end added by its weight.
 pub(crate) fn weighted(total: u64, by: u64, end: u32) -> u64
     requires sum { ⌜ total ≤ 36 * fixed-scale ⌝ }

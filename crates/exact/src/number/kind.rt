@@ -10,8 +10,6 @@ use super::ExactSum;
 use crate::units::SCALE;
 use crate::units::above;
 use crate::units::greater;
-use crate::units::mean_of;
-use crate::units::older;
 use crate::units::sound;
 use crate::units::weighted;
 use chance::kind::Chance;
@@ -19,6 +17,7 @@ use chance::number::Is;
 use chance::number::IsNumber;
 use chance::sums::admit;
 use chance::sums::closable;
+use chance::sums::older;
 use refusals::refusal::Refusal;
 
 const REACH: u64 = 11;
@@ -41,7 +40,7 @@ fn mean(sum: &ExactSum) -> Exact
     ensures { λ r. ⌜ r ≡ exact-closed (now (sum .entry)) ⌝ }
 {
     Exact {
-        number: mean_of(sum.number),
+        number: sum.number / 36,
         age: sum.age + 1,
     }
 }

@@ -11,7 +11,6 @@ use crate::ends::WHOLE;
 use crate::ends::better_ends;
 use crate::ends::mean_down;
 use crate::ends::mean_up;
-use crate::ends::older;
 use crate::ends::sound;
 use crate::ends::turned_ends;
 use crate::ends::weighted;
@@ -20,6 +19,7 @@ use chance::number::Is;
 use chance::number::IsNumber;
 use chance::sums::admit;
 use chance::sums::closable;
+use chance::sums::older;
 use refusals::refusal::Refusal;
 
 const SCALE: u64 = 1_000_000_000;

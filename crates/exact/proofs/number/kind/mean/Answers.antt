@@ -4,7 +4,7 @@ use Rattle.exact.specs.Kept.{same-number, closed-is}
 use Rattle.exact.proofs.number.kind.mean.Needs as need
 
 pub ghost-result : need.ghost-result
-ghost-result c = (rw (c .mean-of .ensures) (mean-sound (c .args .sum .now) (c .pre)), tt)
+ghost-result c = (mean-sound (c .args .sum .now) (c .pre), tt)
 
 pub returns : need.returns
-returns c = same-number _ _ (c .mean-of .ensures) refl ∙ sym (closed-is _ (c .pre))
+returns c = same-number _ _ refl refl ∙ sym (closed-is _ (c .pre))
