@@ -1,6 +1,6 @@
 // Reckoning with exact numbers.
 ghost use mathlib.Core.Path.{_≡_};
-ghost use Prim.Native.Nat.{_+_, _-_, _*_, _≤_, max};
+ghost use Prim.Native.Nat.{_+_, _-_, _*_, _≤_, _<_, max};
 ghost use Rattle.std.specs.Orderings.{Decides};
 ghost use Rattle.exact.specs.Sound.{exact-scale, exact-reach, unit-of, Sound};
 
@@ -35,7 +35,8 @@ pub(crate) fn weighted(total: u64, by: u64, number: u64) -> u64
 // The step between the numbers of an age.
 pub(crate) fn unit(age: u8) -> u64
     requires { ⌜ age ≤ exact-reach ⌝ }
-    ensures { λ r. ⌜ r ≡ unit-of age ⌝ }
+    ensures is { λ r. ⌜ r ≡ unit-of age ⌝ }
+    ensures some { λ r. ⌜ 0 < r ⌝ }
 {
     36u64.pow(11 - age as u32)
 }

@@ -20,6 +20,14 @@ pub fn is_refused<K: Chance>(r: Result<K, Refusal>, why: Reason) -> Result<(), F
     }
 }
 
-pub fn weight_refused(r: Result<(), Refusal>) -> Result<(), Fail> {
-    check_eq(r, Err(Refusal::plain(Reason::WeightOutOfRange)))
+// Adding won with such a weight is refused.
+pub fn weight_refused<K: Chance>(sum: &mut K::Sum, by: u64) -> Result<(), Fail> {
+    check_eq(
+        K::add(sum, by, K::won()),
+        Err(Refusal::plain(Reason::WeightOutOfRange)),
+    )
+}
+
+pub fn weight_taken<K: Chance>(sum: &mut K::Sum, by: u64) -> Result<(), Fail> {
+    check_eq(K::add(sum, by, K::won()), Ok(()))
 }

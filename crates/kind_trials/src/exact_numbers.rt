@@ -1,7 +1,6 @@
 // Exact numbers.
 use crate::answers::is_refused;
 use crate::answers::is_value;
-use crate::answers::weight_refused;
 use chance::constants::grain_of;
 use chance::constants::reach_of;
 use chance::constants::scale_of;
@@ -9,8 +8,8 @@ use chance::kind::Chance;
 use exact::number::Exact;
 use exact::number::ExactRow;
 use exact::number::kind::ExactChance;
+use folds::mean_of;
 use refusals::reason::Reason;
-use refusals::refusal::RefusalDebug;
 use std::test::*;
 
 // 36^11 and 36^10
@@ -31,13 +30,6 @@ fn numbers() -> Result<(), Fail> {
 }
 
 #[test]
-fn ends_of_the_scale() -> Result<(), Fail> {
-    check_eq(Exact::lost().ends(), (0, 0, 0))?;
-    check_eq(Exact::won().ends(), (SCALE, SCALE, 0))?;
-    check_eq(Exact::won().turned().ends(), (0, 0, 0))
-}
-
-#[test]
 fn turned_and_better() -> Result<(), Fail> {
     let a = read(UNIT, 1);
     let b = read(35, 11);
@@ -47,40 +39,20 @@ fn turned_and_better() -> Result<(), Fail> {
 }
 
 #[test]
-fn one_in_thirty_six() -> Result<(), Fail> {
-    let mut sum = Exact::empty();
-    Exact::add(&mut sum, 1, Exact::won())?;
-    Exact::add(&mut sum, 35, Exact::lost())?;
-    is_value(Exact::close(&mut sum), (UNIT, UNIT, 1))
+fn means() -> Result<(), Fail> {
+    let none = Exact::lost();
+    is_value(mean_of(&[(1, Exact::won()), (35, none)]), (UNIT, UNIT, 1))?;
+    is_value(mean_of(&[(36, read(UNIT, 1))]), (UNIT, UNIT, 2))
 }
 
 #[test]
-fn closes_below_the_reach() -> Result<(), Fail> {
-    let mut sum = Exact::empty();
-    Exact::add(&mut sum, 1, read(36, 10))?;
-    Exact::add(&mut sum, 35, Exact::lost())?;
-    is_value(Exact::close(&mut sum), (1, 1, 11))
-}
-
-#[test]
-fn too_old_at_the_reach() -> Result<(), Fail> {
-    let mut sum = Exact::empty();
-    Exact::add(&mut sum, 35, read(1, 11))?;
-    is_refused(Exact::close(&mut sum), Reason::SumNotFull)?;
-    Exact::add(&mut sum, 1, Exact::won())?;
-    is_refused(Exact::close(&mut sum), Reason::SumTooOld)?;
-    is_refused(Exact::close(&mut sum), Reason::SumTooOld)
-}
-
-#[test]
-fn weights() -> Result<(), Fail> {
-    let mut sum = Exact::empty();
-    weight_refused(Exact::add(&mut sum, 0, read(1, 11)))?;
-    weight_refused(Exact::add(&mut sum, 37, Exact::won()))?;
-    Exact::add(&mut sum, 36, Exact::won())?;
-    weight_refused(Exact::add(&mut sum, 1, Exact::lost()))?;
-    is_value(Exact::close(&mut sum), (SCALE, SCALE, 1))?;
-    is_refused(Exact::close(&mut sum), Reason::SumNotFull)
+fn closing_at_the_reach() -> Result<(), Fail> {
+    let none = Exact::lost();
+    let old = read(1, 11);
+    is_value(mean_of(&[(1, read(36, 10)), (35, none)]), (1, 1, 11))?;
+    is_refused(mean_of(&[(1, old), (35, none)]), Reason::SumTooOld)?;
+    is_refused(mean_of(&[(1, old), (34, none)]), Reason::SumNotFull)?;
+    is_refused(mean_of(&[(1, old), (0, none)]), Reason::WeightOutOfRange)
 }
 
 #[test]

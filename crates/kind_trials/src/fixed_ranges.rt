@@ -1,7 +1,6 @@
 // Fixed ranges.
 use crate::answers::is_refused;
 use crate::answers::is_value;
-use crate::answers::weight_refused;
 use chance::constants::grain_of;
 use chance::constants::reach_of;
 use chance::constants::scale_of;
@@ -9,8 +8,9 @@ use chance::kind::Chance;
 use fixed::range::Fixed;
 use fixed::range::FixedRow;
 use fixed::range::kind::FixedChance;
+use folds::best_of;
+use folds::mean_of;
 use refusals::reason::Reason;
-use refusals::refusal::RefusalDebug;
 use std::test::*;
 
 // The value that such a row is read as.
@@ -26,72 +26,36 @@ fn numbers() -> Result<(), Fail> {
 }
 
 #[test]
-fn ends_of_the_scale() -> Result<(), Fail> {
-    check_eq(Fixed::lost().ends(), (0, 0, 0))?;
-    check_eq(Fixed::won().ends(), (1_000_000_000, 1_000_000_000, 0))?;
-    check_eq(Fixed::won().turned().ends(), (0, 0, 0))
-}
-
-#[test]
 fn turned_and_better() -> Result<(), Fail> {
     let a = read(10, 12, 3);
     let b = read(7, 14, 9);
     check_eq(a.turned().ends(), (999_999_988, 999_999_990, 3))?;
     check_eq(a.better(b).ends(), (10, 14, 9))?;
-    check_eq(b.better(a).ends(), (10, 14, 9))
+    check_eq(b.better(a).ends(), (10, 14, 9))?;
+    check_eq(best_of(a, &[]).ends(), (10, 12, 3))?;
+    check_eq(best_of(Fixed::lost(), &[a, b]).ends(), (10, 14, 9))
 }
 
 #[test]
-fn one_rounds_outwards() -> Result<(), Fail> {
-    let mut sum = Fixed::empty();
-    Fixed::add(&mut sum, 1, read(1, 1, 0))?;
-    Fixed::add(&mut sum, 35, Fixed::lost())?;
-    is_value(Fixed::close(&mut sum), (0, 1, 1))
+fn rounding_at_the_edges() -> Result<(), Fail> {
+    let one = read(1, 1, 0);
+    let none = Fixed::lost();
+    is_value(mean_of(&[(1, one), (35, none)]), (0, 1, 1))?;
+    is_value(mean_of(&[(35, one), (1, none)]), (0, 1, 1))?;
+    is_value(mean_of(&[(36, one)]), (1, 1, 1))?;
+    is_value(
+        mean_of(&[(35, Fixed::won()), (1, none)]),
+        (972_222_222, 972_222_223, 1),
+    )
 }
 
 #[test]
-fn thirty_five_round_outwards() -> Result<(), Fail> {
-    let mut sum = Fixed::empty();
-    Fixed::add(&mut sum, 35, read(1, 1, 0))?;
-    Fixed::add(&mut sum, 1, Fixed::lost())?;
-    is_value(Fixed::close(&mut sum), (0, 1, 1))
-}
-
-#[test]
-fn thirty_six_round_nothing() -> Result<(), Fail> {
-    let mut sum = Fixed::empty();
-    Fixed::add(&mut sum, 36, Fixed::won())?;
-    is_value(Fixed::close(&mut sum), (1_000_000_000, 1_000_000_000, 1))
-}
-
-#[test]
-fn closes_below_the_reach() -> Result<(), Fail> {
-    let mut sum = Fixed::empty();
-    Fixed::add(&mut sum, 36, read(100, 159, 59))?;
-    is_value(Fixed::close(&mut sum), (100, 159, 60))
-}
-
-#[test]
-fn too_old_at_the_reach() -> Result<(), Fail> {
-    let mut sum = Fixed::empty();
-    Fixed::add(&mut sum, 1, read(5, 5, 60))?;
-    is_refused(Fixed::close(&mut sum), Reason::SumNotFull)?;
-    Fixed::add(&mut sum, 35, Fixed::won())?;
-    is_refused(Fixed::close(&mut sum), Reason::SumTooOld)?;
-    is_refused(Fixed::close(&mut sum), Reason::SumTooOld)
-}
-
-#[test]
-fn weights() -> Result<(), Fail> {
-    let mut sum = Fixed::empty();
-    weight_refused(Fixed::add(&mut sum, 0, read(0, 60, 60)))?;
-    weight_refused(Fixed::add(&mut sum, 37, Fixed::won()))?;
-    weight_refused(Fixed::add(&mut sum, 18_446_744_073_709_551_615, Fixed::won()))?;
-    Fixed::add(&mut sum, 30, Fixed::won())?;
-    weight_refused(Fixed::add(&mut sum, 7, Fixed::lost()))?;
-    Fixed::add(&mut sum, 6, Fixed::won())?;
-    is_value(Fixed::close(&mut sum), (1_000_000_000, 1_000_000_000, 1))?;
-    is_refused(Fixed::close(&mut sum), Reason::SumNotFull)
+fn closing_at_the_reach() -> Result<(), Fail> {
+    let old = read(5, 5, 60);
+    is_value(mean_of(&[(36, read(100, 159, 59))]), (100, 159, 60))?;
+    is_refused(mean_of(&[(1, old), (35, Fixed::won())]), Reason::SumTooOld)?;
+    is_refused(mean_of(&[(35, old)]), Reason::SumNotFull)?;
+    is_refused(mean_of(&[(35, old), (2, old)]), Reason::WeightOutOfRange)
 }
 
 #[test]

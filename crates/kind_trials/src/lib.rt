@@ -2,8 +2,8 @@
 #[cfg(test)]
 mod answers;
 #[cfg(test)]
+mod every_kind;
+#[cfg(test)]
 mod exact_numbers;
 #[cfg(test)]
 mod fixed_ranges;
-#[cfg(test)]
-mod weighted_means;

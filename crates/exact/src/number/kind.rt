@@ -20,6 +20,8 @@ use chance::sums::closable;
 use chance::sums::older;
 use refusals::refusal::Refusal;
 
+const GRAIN: u64 = 0;
+
 const REACH: u64 = 11;
 
 // The sum with a value added by a weight that fits.
@@ -52,13 +54,13 @@ pub impl Chance for Exact as ExactChance {
 
     type Scale = Is<SCALE>;
 
-    type Grain = Is<0>;
+    type Grain = Is<GRAIN>;
 
     type Reach = Is<REACH>;
 
     const SCALE: Is<SCALE> = Is;
 
-    const GRAIN: Is<0> = Is;
+    const GRAIN: Is<GRAIN> = Is;
 
     const REACH: Is<REACH> = Is;
 

@@ -24,6 +24,8 @@ use refusals::refusal::Refusal;
 
 const SCALE: u64 = 1_000_000_000;
 
+const GRAIN: u64 = 1;
+
 const REACH: u64 = 60;
 
 // A range of one number, of age 0.
@@ -72,13 +74,13 @@ pub impl Chance for Fixed as FixedChance {
 
     type Scale = Is<SCALE>;
 
-    type Grain = Is<1>;
+    type Grain = Is<GRAIN>;
 
     type Reach = Is<REACH>;
 
     const SCALE: Is<SCALE> = Is;
 
-    const GRAIN: Is<1> = Is;
+    const GRAIN: Is<GRAIN> = Is;
 
     const REACH: Is<REACH> = Is;
 
