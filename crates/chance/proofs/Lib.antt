@@ -1,4 +1,5 @@
 pub mod Admitted
 pub mod Chosen
 pub mod Fractions
+pub mod Powers
 pub mod Ranges

@@ -4,6 +4,7 @@ use mathlib.Core.Path.{_≡_}
 use Rattle.chance.specs.Fraction.{Fraction, Holds, nothing, whole, rest, greater, plus, mean}
 use Rattle.chance.specs.Sums.{Fits}
 
+-- V are the kind's values, S its sums, R its rows
 pub record Rules {V S R : Type 0}
     (scale grain reach : ℕ)
     (lower upper age : V → ℕ)

@@ -13,6 +13,7 @@ pub record Fits (t w : ℕ) : Type 0 where
   pub some : 0 < w
   pub room : t + w ≤ 36
 
+-- whether it does
 unfoldable pub fits? : (t w : ℕ) → Dec (Fits t w)
 fits? t w = elim (decLt 0 w) [
   | yes some ↦ elim (decLe (t + w) 36) [ yes room ↦ yes (record { some = some; room = room }) | no past ↦ no (λ h. past (h .room)) ]

@@ -13,7 +13,8 @@ use Rattle.chance.specs.Sums.{Fits, fits?}
 use Rattle.chance.proofs.Chosen.{chosen, not-chosen}
 use Rattle.chance.proofs.Ranges.{turned-holds, better-holds, plus-holds, mean-holds}
 use Rattle.exact.specs.Sound.{exact-scale, exact-reach, unit-of, Sound}
-use Rattle.exact.specs.Number.{exactly, exact-lost, exact-won, exact-turned, exact-better, exact-empty, exact-with, exact-added, thirty-sixth, exact-mean, exact-closed, exact-held, exact-written, sound?, exact-unwritten}
+use Rattle.exact.specs.Stays.{thirty-sixth, sound?}
+use Rattle.exact.specs.Number.{exactly, exact-lost, exact-won, exact-turned, exact-better, exact-empty, exact-with, exact-added, exact-mean, exact-closed, exact-held, exact-written, exact-unwritten}
 use Rattle.exact.specs.declared.number.Exact.{Exact}
 use Rattle.exact.specs.declared.number.ExactSum.{ExactSum}
 use Rattle.exact.specs.declared.number.ExactRow.{ExactRow}

@@ -1,89 +1,42 @@
--- What each call of the exact kind answers. The lemmas named -sound show that an answer keeps the rule of Sound.
-use Prim.Native.Nat.{ℕ, suc, _+_, _-_, _*_, _/_, _%_, _^_, _≤_, _<_, _∣_, max}
-use mathlib.Core.Path.{_≡_}
-use native.Mathlib.Decide.{decLe, decLt, ℕ-discrete}
-use native.Mathlib.Omega.{arith}
-use native.Mathlib.Nat.{dvd-mul-right, dvd-mul-left-of-dvd, dvd-trans, dvd-add, dvd-sub, dvd-of-mod-eq-zero, mod-eq-zero-of-dvd, dvd-of-mul-dvd-mul-left, mul-div-cancel', pow-succ', max-eq-left, max-eq-right, mul-le-mul-left}
-use lib.Pow.{pow-add}
+-- What each call of the exact kind answers.
+use Prim.Native.Nat.{ℕ, _+_, _-_, _*_, _/_, _<_, max}
+use native.Mathlib.Decide.{decLt}
 use Rattle.chance.specs.Choose.{choose}
 use Rattle.chance.specs.Fraction.{Fraction, Holds}
 use Rattle.chance.specs.Sums.{Fits, fits?}
-use Rattle.exact.specs.Sound.{exact-scale, exact-reach, unit-of, Sound, Sum-sound}
+use Rattle.exact.specs.Sound.{exact-scale, exact-reach, Sound, Sum-sound}
+use Rattle.exact.specs.Stays.{lost-sound, won-sound, turned-sound, better-sound, empty-sound, with-sound, mean-sound, sound?}
 use Rattle.exact.specs.declared.number.Exact.{Exact}
 use Rattle.exact.specs.declared.number.ExactSum.{ExactSum}
 use Rattle.exact.specs.declared.number.ExactRow.{ExactRow}
 
--- the unit of a greater age divides that of a smaller
-unit-divides : (a b : ℕ) → a ≤ b → b ≤ 11 → unit-of b ∣ unit-of a
-unit-divides a b h i =
-    let e : 11 - a ≡ 11 - b + (b - a) = omega arith in
-    rw (e, pow-add 36 (11 - b) (b - a)) (dvd-mul-right (36 ^ (11 - b)) (36 ^ (b - a)))
-
--- a multiple of the unit of an age is one of each greater age's unit
-older : (n a b : ℕ) → a ≤ b → b ≤ 11 → n % unit-of a ≡ 0 → unit-of b ∣ n
-older n a b h i e = dvd-trans (unit-of b) (unit-divides a b h i) (dvd-of-mod-eq-zero (unit-of a) e)
-
-multiple : {n : ℕ} (a : ℕ) → unit-of a ∣ n → n % unit-of a ≡ 0
-multiple a h = mod-eq-zero-of-dvd (unit-of a) h
-
+-- the value with this number and this age
 abbrev pub exactly : (n a : ℕ) → Sound n a → Exact
 exactly n a h = record { number = n; age = a; ok = h }
 
+-- the sum with this total, this weight and this age
 abbrev pub total : (n w a : ℕ) → Sum-sound n w a → ExactSum
 total n w a h = record { number = n; weight = w; age = a; ok = h }
 
-pub lost-sound : Sound 0 0
-lost-sound = (omega arith, omega arith, omega arith)
-
+-- 0, of age 0
 abbrev pub exact-lost : Exact
 exact-lost = exactly 0 0 lost-sound
 
-pub won-sound : Sound exact-scale 0
-won-sound = (omega arith, omega arith, omega arith)
-
+-- the scale, of age 0
 abbrev pub exact-won : Exact
 exact-won = exactly exact-scale 0 won-sound
-
-pub turned-sound : (x : Exact) → Sound (exact-scale - x .number) (x .age)
-turned-sound x = (
-  omega arith,
-  x .ok .1,
-  multiple (x .age) (dvd-sub (unit-of (x .age)) (unit-divides 0 (x .age) (omega arith) (x .ok .1)) (dvd-of-mod-eq-zero (unit-of (x .age)) (x .ok .2))),
-)
 
 -- scale - number, of the same age
 abbrev pub exact-turned : Exact → Exact
 exact-turned x = exactly (exact-scale - x .number) (x .age) (turned-sound x)
 
-max-divides : (d m n : ℕ) → d ∣ m → d ∣ n → d ∣ max m n
-max-divides d m n h i = elim (decLe m n) [ yes le ↦ rw max-eq-right i | no gt ↦ let ge : n ≤ m = omega arith in rw max-eq-left h ]
-
-pub better-sound : (x y : Exact) → Sound (max (x .number) (y .number)) (max (x .age) (y .age))
-better-sound x y =
-    let a : ℕ = max (x .age) (y .age) in
-    let i : a ≤ 11 = omega arith in
-    let mine = older (x .number) (x .age) a (omega arith) i (x .ok .2) in
-    let theirs = older (y .number) (y .age) a (omega arith) i (y .ok .2) in
-    (omega arith, i, multiple a (max-divides _ (x .number) (y .number) mine theirs))
-
 -- the greater of each
 abbrev pub exact-better : Exact → Exact → Exact
 exact-better x y = exactly (max (x .number) (y .number)) (max (x .age) (y .age)) (better-sound x y)
 
-pub empty-sound : Sum-sound 0 0 0
-empty-sound = (omega arith, omega arith, omega arith, omega arith)
-
+-- nothing added yet
 abbrev pub exact-empty : ExactSum
 exact-empty = total 0 0 0 empty-sound
-
-pub with-sound : (s : ExactSum) (w : ℕ) (x : Exact) → Fits (s .weight) w → Sum-sound (s .number + w * x .number) (s .weight + w) (max (s .age) (x .age))
-with-sound s w x h =
-    let a : ℕ = max (s .age) (x .age) in
-    let i : a ≤ 11 = omega arith in
-    let before = older (s .number) (s .age) a (omega arith) i (s .ok .3) in
-    let more = older (x .number) (x .age) a (omega arith) i (x .ok .2) in
-    let most = mul-le-mul-left w (x .ok .0) in
-    (h .room, omega arith, i, multiple a (dvd-add _ before (dvd-mul-left-of-dvd _ more w)))
 
 -- the number by the weight, and the greater age
 abbrev pub exact-with : (s : ExactSum) (w : ℕ) (x : Exact) → Fits (s .weight) w → ExactSum
@@ -92,18 +45,6 @@ exact-with s w x h = total (s .number + w * x .number) (s .weight + w) (max (s .
 -- as it was, where the weight does not fit
 unfoldable pub exact-added : ExactSum → ℕ → Exact → ExactSum
 exact-added s w x = choose (fits? (s .weight) w) (exact-with s w x) s
-
--- below the reach a sum is a multiple of 36
-pub thirty-sixth : (s : ExactSum) → s .age < exact-reach → 36 * (s .number / 36) ≡ s .number
-thirty-sixth s h = mul-div-cancel' 36 (older (s .number) (s .age) 10 (omega arith) (omega arith) (s .ok .3))
-
-pub mean-sound : (s : ExactSum) → s .age < exact-reach → Sound (s .number / 36) (s .age + 1)
-mean-sound s h =
-    let u : ℕ = unit-of (s .age + 1) in
-    let e : 11 - s .age ≡ suc (11 - (s .age + 1)) = omega arith in
-    let all : 36 * u ∣ s .number = rw (e, pow-succ' 36 (11 - (s .age + 1))) at (dvd-of-mod-eq-zero (unit-of (s .age)) (s .ok .3)) in
-    let part : 36 * u ∣ 36 * (s .number / 36) = rw (thirty-sixth s h) all in
-    (omega (arith, thirty-sixth s h), omega arith, multiple (s .age + 1) (dvd-of-mul-dvd-mul-left u (omega arith) part))
 
 -- the mean, which is a whole number
 abbrev pub exact-mean : (s : ExactSum) → s .age < exact-reach → Exact
@@ -117,17 +58,9 @@ exact-closed s = choose (decLt (s .age) exact-reach) (exact-mean s) exact-lost
 abbrev pub exact-held : ExactSum → Fraction → Type 0
 exact-held s t = Holds exact-scale (s .number) (s .number) t
 
+-- the number and the age
 abbrev pub exact-written : Exact → ExactRow
 exact-written x = record { number = x .number; age = x .age }
-
-unfoldable pub sound? : (n a : ℕ) → Dec (Sound n a)
-sound? n a = elim (decLe n exact-scale) [
-  | yes h ↦ elim (decLe a exact-reach) [
-    | yes i ↦ elim (ℕ-discrete (n % unit-of a) 0) [ yes j ↦ yes (h, i, j) | no f ↦ no (λ s. f (s .2)) ]
-    | no f ↦ no (λ s. f (s .1))
-  ]
-  | no f ↦ no (λ s. f (s .0))
-]
 
 -- lost, where no value writes the row
 unfoldable pub exact-unwritten : ExactRow → Exact

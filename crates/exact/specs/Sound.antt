@@ -2,9 +2,11 @@
 use Prim.Native.Nat.{ℕ, _-_, _*_, _%_, _^_, _≤_}
 use mathlib.Core.Path.{_≡_}
 
+-- what stands for 1
 abbrev pub exact-scale : ℕ
 exact-scale = 36 ^ 11
 
+-- the greatest age
 abbrev pub exact-reach : ℕ
 exact-reach = 11
 

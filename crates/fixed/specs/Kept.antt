@@ -12,7 +12,8 @@ use Rattle.chance.specs.Sums.{Fits, fits?}
 use Rattle.chance.proofs.Chosen.{chosen, not-chosen}
 use Rattle.chance.proofs.Ranges.{turned-holds, better-holds, plus-holds, mean-holds}
 use Rattle.fixed.specs.Sound.{fixed-scale, fixed-reach, Sound}
-use Rattle.fixed.specs.Range.{range, fixed-lost, fixed-won, fixed-turned, fixed-better, fixed-empty, fixed-with, fixed-added, fixed-mean, fixed-closed, fixed-held, fixed-written, sound?, fixed-unwritten}
+use Rattle.fixed.specs.Stays.{sound?}
+use Rattle.fixed.specs.Range.{range, fixed-lost, fixed-won, fixed-turned, fixed-better, fixed-empty, fixed-with, fixed-added, fixed-mean, fixed-closed, fixed-held, fixed-written, fixed-unwritten}
 use Rattle.fixed.specs.declared.range.Fixed.{Fixed}
 use Rattle.fixed.specs.declared.range.FixedSum.{FixedSum}
 use Rattle.fixed.specs.declared.range.FixedRow.{FixedRow}

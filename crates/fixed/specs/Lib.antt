@@ -1,3 +1,4 @@
 pub mod Sound
+pub mod Stays
 pub mod Range
 pub mod Kept

@@ -1,9 +1,11 @@
 -- What every fixed range, and every sum of them, keeps.
 use Prim.Native.Nat.{ℕ, _+_, _*_, _≤_}
 
+-- what stands for 1
 abbrev pub fixed-scale : ℕ
 fixed-scale = 1_000_000_000
 
+-- the greatest age
 abbrev pub fixed-reach : ℕ
 fixed-reach = 60
 

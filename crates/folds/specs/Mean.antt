@@ -25,9 +25,11 @@ weighed t [] qs = t
 weighed t (w ∷ ws) [] = t
 weighed t (w ∷ ws) (q ∷ qs) = weighed (plus t w q) ws qs
 
+-- the weights of parts, in order
 abbrev pub weights : {V : Type 0} → List (ℕ × V) → List ℕ
 weights ps = map (λ p. p .0) ps
 
+-- the values of parts, in order
 abbrev pub values : {V : Type 0} → List (ℕ × V) → List V
 values ps = map (λ p. p .1) ps
 

@@ -1,5 +1,5 @@
 use mathlib.Core.Path.{refl, sym, _∙_}
-use Rattle.exact.specs.Number.{with-sound}
+use Rattle.exact.specs.Stays.{with-sound}
 use Rattle.exact.specs.Kept.{same-total, added-is}
 use Rattle.exact.proofs.number.kind.joined.Needs as need
 

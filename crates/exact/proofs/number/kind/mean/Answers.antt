@@ -1,5 +1,5 @@
 use mathlib.Core.Path.{refl, sym, _∙_}
-use Rattle.exact.specs.Number.{mean-sound}
+use Rattle.exact.specs.Stays.{mean-sound}
 use Rattle.exact.specs.Kept.{same-number, closed-is}
 use Rattle.exact.proofs.number.kind.mean.Needs as need
 

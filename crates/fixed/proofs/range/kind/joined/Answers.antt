@@ -1,5 +1,5 @@
 use mathlib.Core.Path.{refl, sym, _∙_}
-use Rattle.fixed.specs.Range.{with-sound}
+use Rattle.fixed.specs.Stays.{with-sound}
 use Rattle.fixed.specs.Kept.{same-total, added-is}
 use Rattle.fixed.proofs.range.kind.joined.Needs as need
 

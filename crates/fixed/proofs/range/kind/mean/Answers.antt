@@ -1,5 +1,5 @@
 use mathlib.Core.Path.{refl, sym, _∙_}
-use Rattle.fixed.specs.Range.{mean-sound}
+use Rattle.fixed.specs.Stays.{mean-sound}
 use Rattle.fixed.specs.Kept.{same-range, closed-is}
 use Rattle.fixed.proofs.range.kind.mean.Needs as need
 

@@ -1,4 +1,4 @@
-use Rattle.exact.specs.Number.{better-sound}
+use Rattle.exact.specs.Stays.{better-sound}
 use Rattle.exact.specs.Kept.{same-number}
 use Rattle.exact.proofs.number.kind.ExactChance.better.Needs as need
 

@@ -1,5 +1,5 @@
 use mathlib.Core.Path.{refl}
-use Rattle.exact.specs.Number.{turned-sound}
+use Rattle.exact.specs.Stays.{turned-sound}
 use Rattle.exact.specs.Kept.{same-number}
 use Rattle.exact.proofs.number.kind.ExactChance.turned.Needs as need
 
