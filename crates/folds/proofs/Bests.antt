@@ -9,6 +9,7 @@ use Rattle.std.specs.shelf.Lists.{folded}
 use Rattle.chance.specs.Fraction.{Fraction, greater}
 use Rattle.chance.specs.Held.{Held}
 use Rattle.chance.specs.declared.kind.Chance.{Ghosts}
+use Rattle.chance.proofs.Greatest.{greatest-held}
 use Rattle.folds.specs.Best.{best, oldest-from, All-held, Best-holds}
 
 -- one element more of a fold over what is left
@@ -16,11 +17,14 @@ pub folded-next : {X Y : Type 0} (f : Y → X → Y) (a : Y) (xs : List X) (i : 
 folded-next f a xs i x h e = ap (folded f a) (drop-cons xs i x h) ∙ rw (add-one, ← e)
 
 module _ {V S R A B C : Type 0} (k : Ghosts V S R A B C) where
+  best-folded : (x : V) (ys : List V) (q : Fraction) (qs : List Fraction) → Held k x q → All-held k ys qs → Held k (best k x ys) (folded greater q qs)
+  best-folded x [] q [] h a = h
+  best-folded x [] q (_ ∷ _) h a = absurd a
+  best-folded x (y ∷ ys) q [] h a = absurd a
+  best-folded x (y ∷ ys) q (p ∷ ps) h a = best-folded (k .better x y) ys (greater q p) ps (k .rules .better-holds x y q p h (a .0)) (a .1)
+
   pub best-holds : (x : V) (ys : List V) → Best-holds k x ys (best k x ys)
-  best-holds x [] q [] h a = h
-  best-holds x [] q (_ ∷ _) h a = absurd a
-  best-holds x (y ∷ ys) q [] h a = absurd a
-  best-holds x (y ∷ ys) q (p ∷ ps) h a = best-holds (k .better x y) ys (greater q p) ps (k .rules .better-holds x y q p h (a .0)) (a .1)
+  best-holds x ys g q qs h a top = greatest-held _ _ _ g q qs top (best-folded x ys q qs h a)
 
   pub best-age : (x : V) (ys : List V) → k .age (best k x ys) ≡ oldest-from k (k .age x) ys
   best-age x [] = refl

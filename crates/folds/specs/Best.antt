@@ -2,7 +2,8 @@
 use Prim.Native.Nat.{ℕ, max}
 use mathlib.Core.List.{List, [], _∷_}
 use Rattle.std.specs.shelf.Lists.{folded}
-use Rattle.chance.specs.Fraction.{Fraction, greater}
+use Rattle.chance.specs.Fraction.{Fraction}
+use Rattle.chance.specs.Greatest.{Greatest}
 use Rattle.chance.specs.Held.{Held}
 use Rattle.chance.specs.declared.kind.Chance.{Ghosts}
 
@@ -24,4 +25,4 @@ module _ {V S R A B C : Type 0} (k : Ghosts V S R A B C) where
 
   -- whatever fractions the values hold, r holds the greatest of them
   abbrev pub Best-holds : V → List V → V → Type 0
-  Best-holds x ys r = (q : Fraction) (qs : List Fraction) → Held k x q → All-held ys qs → Held k r (folded greater q qs)
+  Best-holds x ys r = (g q : Fraction) (qs : List Fraction) → Held k x q → All-held ys qs → Greatest g (q ∷ qs) → Held k r g
