@@ -17,7 +17,7 @@ pub record Rules {V S R : Type 0}
     (added : S → ℕ → V → S)
     (closed : S → V)
     (written : V → R)
-    (unwritten : R → V) : Type 0 where
+    (read : R → V) : Type 0 where
   -- the scale is from 1 to 36^11, the grain 0 or 1, the reach from 1 to 60
   pub some-scale : 1 ≤ scale
   pub scale-fits : scale ≤ 36 ^ 11
@@ -57,5 +57,5 @@ pub record Rules {V S R : Type 0}
   pub closed-holds : (s : S) (t : Fraction) → weight s ≡ 36 → oldest s < reach → held s t → Holds scale (lower (closed s)) (upper (closed s)) (mean t)
   pub closed-age : (s : S) → weight s ≡ 36 → oldest s < reach → age (closed s) ≡ oldest s + 1
   -- a row is read as the value that wrote it, and as lost where no value writes it
-  pub same-row : (x : V) → unwritten (written x) ≡ x
-  pub other-row : (r : R) → ((x : V) → written x ≡ r → ⊥) → unwritten r ≡ lost
+  pub same-row : (x : V) → read (written x) ≡ x
+  pub other-row : (r : R) → ((x : V) → written x ≡ r → ⊥) → read r ≡ lost

@@ -72,10 +72,10 @@ pub trait Chance: Copy {
     // Which row a value writes, and which value a row is read as.
     ghost written: { Self → Self·Row };
 
-    ghost unwritten: { Self·Row → Self };
+    ghost read: { Self·Row → Self };
 
     // What each kind has to show.
-    ghost rules: { Rules scale grain reach lower upper age lost won turned better weight oldest held empty added closed written unwritten };
+    ghost rules: { Rules scale grain reach lower upper age lost won turned better weight oldest held empty added closed written read };
 
     // Lower end, upper end and age.
     fn ends(self) -> (u64, u64, u64)
@@ -111,5 +111,5 @@ pub trait Chance: Copy {
 
     // The value that wrote the row, and lost where no value writes it.
     fn read_row(from: Self::Row) -> Self
-        ensures { λ r. ⌜ r ≡ unwritten from ⌝ };
+        ensures { λ r. ⌜ r ≡ read from ⌝ };
 }

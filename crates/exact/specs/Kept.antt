@@ -14,7 +14,7 @@ use Rattle.chance.proofs.Chosen.{chosen, not-chosen}
 use Rattle.chance.proofs.Ranges.{turned-holds, better-holds, plus-holds, mean-holds}
 use Rattle.exact.specs.Sound.{exact-scale, exact-reach, unit-of, Sound}
 use Rattle.exact.specs.Stays.{thirty-sixth, sound?}
-use Rattle.exact.specs.Number.{exactly, exact-lost, exact-won, exact-turned, exact-better, exact-empty, exact-with, exact-added, exact-mean, exact-closed, exact-held, exact-written, exact-unwritten}
+use Rattle.exact.specs.Number.{exactly, exact-lost, exact-won, exact-turned, exact-better, exact-empty, exact-with, exact-added, exact-mean, exact-closed, exact-held, exact-written, exact-read}
 use Rattle.exact.specs.declared.number.Exact.{Exact}
 use Rattle.exact.specs.declared.number.ExactSum.{ExactSum}
 use Rattle.exact.specs.declared.number.ExactRow.{ExactRow}
@@ -56,12 +56,12 @@ pub closed-is : (s : ExactSum) (h : s .age < exact-reach) → exact-closed s ≡
 unfolding exact-closed
 closed-is s h = chosen (decLt (s .age) exact-reach) (exact-mean s) exact-lost _ h (λ k. same-number _ _ refl refl)
 
-pub row-is : (r : ExactRow) (h : Sound (r .number) (r .age)) → exact-unwritten r ≡ exactly (r .number) (r .age) h
-unfolding exact-unwritten
+pub row-is : (r : ExactRow) (h : Sound (r .number) (r .age)) → exact-read r ≡ exactly (r .number) (r .age) h
+unfolding exact-read
 row-is r h = chosen (sound? (r .number) (r .age)) (exactly (r .number) (r .age)) exact-lost _ h (λ k. same-number _ _ refl refl)
 
-pub row-not : (r : ExactRow) → (Sound (r .number) (r .age) → ⊥) → exact-unwritten r ≡ exact-lost
-unfolding exact-unwritten
+pub row-not : (r : ExactRow) → (Sound (r .number) (r .age) → ⊥) → exact-read r ≡ exact-lost
+unfolding exact-read
 row-not r n = not-chosen (sound? (r .number) (r .age)) (exactly (r .number) (r .age)) exact-lost n
 
 mean-held : (s : ExactSum) (t : Fraction) → s .age < exact-reach → exact-held s t → Holds exact-scale (exact-closed s .number) (exact-closed s .number) (mean t)
@@ -69,7 +69,7 @@ mean-held s t h held =
     let e = thirty-sixth s h in
     subst (λ x. Holds exact-scale (x .number) (x .number) (mean t)) (sym (closed-is s h)) (mean-holds _ _ _ _ _ t (omega arith) (omega arith) held)
 
-pub exact-rules : Rules exact-scale 0 exact-reach (λ (x : Exact). x .number) (λ x. x .number) (λ x. x .age) exact-lost exact-won exact-turned exact-better (λ (s : ExactSum). s .weight) (λ s. s .age) exact-held exact-empty exact-added exact-closed exact-written exact-unwritten
+pub exact-rules : Rules exact-scale 0 exact-reach (λ (x : Exact). x .number) (λ x. x .number) (λ x. x .age) exact-lost exact-won exact-turned exact-better (λ (s : ExactSum). s .weight) (λ s. s .age) exact-held exact-empty exact-added exact-closed exact-written exact-read
 exact-rules = record {
   some-scale = lit≤ tt;
   scale-fits = lit≤ tt;

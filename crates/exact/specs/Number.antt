@@ -63,5 +63,5 @@ abbrev pub exact-written : Exact → ExactRow
 exact-written x = record { number = x .number; age = x .age }
 
 -- lost, where no value writes the row
-unfoldable pub exact-unwritten : ExactRow → Exact
-exact-unwritten r = choose (sound? (r .number) (r .age)) (exactly (r .number) (r .age)) exact-lost
+unfoldable pub exact-read : ExactRow → Exact
+exact-read r = choose (sound? (r .number) (r .age)) (exactly (r .number) (r .age)) exact-lost

@@ -13,7 +13,7 @@ use Rattle.chance.proofs.Chosen.{chosen, not-chosen}
 use Rattle.chance.proofs.Ranges.{turned-holds, better-holds, plus-holds, mean-holds}
 use Rattle.fixed.specs.Sound.{fixed-scale, fixed-reach, Sound}
 use Rattle.fixed.specs.Stays.{sound?}
-use Rattle.fixed.specs.Range.{range, fixed-lost, fixed-won, fixed-turned, fixed-better, fixed-empty, fixed-with, fixed-added, fixed-mean, fixed-closed, fixed-held, fixed-written, fixed-unwritten}
+use Rattle.fixed.specs.Range.{range, fixed-lost, fixed-won, fixed-turned, fixed-better, fixed-empty, fixed-with, fixed-added, fixed-mean, fixed-closed, fixed-held, fixed-written, fixed-read}
 use Rattle.fixed.specs.declared.range.Fixed.{Fixed}
 use Rattle.fixed.specs.declared.range.FixedSum.{FixedSum}
 use Rattle.fixed.specs.declared.range.FixedRow.{FixedRow}
@@ -59,12 +59,12 @@ pub closed-is : (s : FixedSum) (h : s .age < fixed-reach) → fixed-closed s ≡
 unfolding fixed-closed
 closed-is s h = chosen (decLt (s .age) fixed-reach) (fixed-mean s) fixed-lost _ h (λ k. same-range _ _ refl refl refl)
 
-pub row-is : (r : FixedRow) (h : Sound (r .lower) (r .upper) (r .age)) → fixed-unwritten r ≡ range (r .lower) (r .upper) (r .age) h
-unfolding fixed-unwritten
+pub row-is : (r : FixedRow) (h : Sound (r .lower) (r .upper) (r .age)) → fixed-read r ≡ range (r .lower) (r .upper) (r .age) h
+unfolding fixed-read
 row-is r h = chosen (sound? (r .lower) (r .upper) (r .age)) (range (r .lower) (r .upper) (r .age)) fixed-lost _ h (λ k. same-range _ _ refl refl refl)
 
-pub row-not : (r : FixedRow) → (Sound (r .lower) (r .upper) (r .age) → ⊥) → fixed-unwritten r ≡ fixed-lost
-unfolding fixed-unwritten
+pub row-not : (r : FixedRow) → (Sound (r .lower) (r .upper) (r .age) → ⊥) → fixed-read r ≡ fixed-lost
+unfolding fixed-read
 row-not r n = not-chosen (sound? (r .lower) (r .upper) (r .age)) (range (r .lower) (r .upper) (r .age)) fixed-lost n
 
 mean-held : (s : FixedSum) (t : Fraction) → s .age < fixed-reach → fixed-held s t → Holds fixed-scale (fixed-closed s .lower) (fixed-closed s .upper) (mean t)
@@ -73,7 +73,7 @@ mean-held s t h held =
     let up : s .upper ≤ (s .upper + 35) / 36 * 36 = omega arith in
     subst (λ x. Holds fixed-scale (x .lower) (x .upper) (mean t)) (sym (closed-is s h)) (mean-holds _ _ _ _ _ t down up held)
 
-pub fixed-rules : Rules fixed-scale 1 fixed-reach (λ (x : Fixed). x .lower) (λ x. x .upper) (λ x. x .age) fixed-lost fixed-won fixed-turned fixed-better (λ (s : FixedSum). s .weight) (λ s. s .age) fixed-held fixed-empty fixed-added fixed-closed fixed-written fixed-unwritten
+pub fixed-rules : Rules fixed-scale 1 fixed-reach (λ (x : Fixed). x .lower) (λ x. x .upper) (λ x. x .age) fixed-lost fixed-won fixed-turned fixed-better (λ (s : FixedSum). s .weight) (λ s. s .age) fixed-held fixed-empty fixed-added fixed-closed fixed-written fixed-read
 fixed-rules = record {
   some-scale = lit≤ tt;
   scale-fits = lit≤ tt;

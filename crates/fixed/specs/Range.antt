@@ -63,5 +63,5 @@ abbrev pub fixed-written : Fixed → FixedRow
 fixed-written x = record { lower = x .lower; upper = x .upper; age = x .age }
 
 -- lost, where no value writes the row
-unfoldable pub fixed-unwritten : FixedRow → Fixed
-fixed-unwritten r = choose (sound? (r .lower) (r .upper) (r .age)) (range (r .lower) (r .upper) (r .age)) fixed-lost
+unfoldable pub fixed-read : FixedRow → Fixed
+fixed-read r = choose (sound? (r .lower) (r .upper) (r .age)) (range (r .lower) (r .upper) (r .age)) fixed-lost

@@ -2,7 +2,7 @@ ghost use mathlib.Core.Path.{_≡_};
 ghost use Prim.Native.Nat.{_<_};
 ghost use Rattle.chance.specs.Sums.{Fits};
 ghost use Rattle.exact.specs.Sound.{exact-scale, exact-reach};
-ghost use Rattle.exact.specs.Number.{exact-lost, exact-won, exact-turned, exact-better, exact-empty, exact-added, exact-closed, exact-held, exact-written, exact-unwritten};
+ghost use Rattle.exact.specs.Number.{exact-lost, exact-won, exact-turned, exact-better, exact-empty, exact-added, exact-closed, exact-held, exact-written, exact-read};
 ghost use Rattle.exact.specs.Kept.{exact-rules};
 use super::Exact;
 use super::ExactRow;
@@ -98,7 +98,7 @@ pub impl Chance for Exact as ExactChance {
 
     ghost written = { exact-written };
 
-    ghost unwritten = { exact-unwritten };
+    ghost read = { exact-read };
 
     ghost rules = { exact-rules };
 

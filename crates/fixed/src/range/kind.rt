@@ -2,7 +2,7 @@ ghost use mathlib.Core.Path.{_≡_};
 ghost use Prim.Native.Nat.{_≤_, _<_};
 ghost use Rattle.chance.specs.Sums.{Fits};
 ghost use Rattle.fixed.specs.Sound.{fixed-scale, fixed-reach};
-ghost use Rattle.fixed.specs.Range.{fixed-lost, fixed-won, fixed-turned, fixed-better, fixed-empty, fixed-added, fixed-closed, fixed-held, fixed-written, fixed-unwritten};
+ghost use Rattle.fixed.specs.Range.{fixed-lost, fixed-won, fixed-turned, fixed-better, fixed-empty, fixed-added, fixed-closed, fixed-held, fixed-written, fixed-read};
 ghost use Rattle.fixed.specs.Kept.{fixed-rules};
 use super::Fixed;
 use super::FixedRow;
@@ -118,7 +118,7 @@ pub impl Chance for Fixed as FixedChance {
 
     ghost written = { fixed-written };
 
-    ghost unwritten = { fixed-unwritten };
+    ghost read = { fixed-read };
 
     ghost rules = { fixed-rules };
 
