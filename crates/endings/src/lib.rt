@@ -1,1 +1,1 @@
-// Endings: what holds of their exact chances, lengths and places.
+// Endings.

@@ -26,8 +26,8 @@ returns-then-too-few c =
     let d = c .in-Continue-dice .ensures tt in
     let w = rw (d .1) at (c .in-Continue-after .ensures tt) in
     rw (c .plain-then-too-few .ensures)
-      (too-few _ (c .args .roll .0) (c .args .roll .1) _ (d .0) (counted (c .in-Continue-dice .dice) (c .args .roll .0) (c .args .roll .1) _ (d .1) (c .if-turn-dice .left)) (w .0)
-        (not-finished _ _ (c .in-Continue-after .after) (w .1) (not-from-decides _ (c .finished .ensures) (c .if-finished .left)), (rw (d .1) at (c .if-too-few .ensures tt))))
+    (too-few _ (c .args .roll .0) (c .args .roll .1) _ (d .0) (counted (c .in-Continue-dice .dice) (c .args .roll .0) (c .args .roll .1) _ (d .1) (c .if-turn-dice .left)) (w .0)
+    (not-finished _ _ (c .in-Continue-after .after) (w .1) (not-from-decides _ (c .finished .ensures) (c .if-finished .left)), (rw (d .1) at (c .if-too-few .ensures tt))))
 
 pub returns-then-playable-2 : need.returns-then-playable-2
 returns-then-playable-2 c =
@@ -36,8 +36,9 @@ returns-then-playable-2 c =
     let full = rw (d .1) at (c .if-too-few .ensures tt) in
     let one = c .smaller-used .ensures .0 (c .if-smaller-used .taken) in
     rw (c .plain-then-playable-2 .ensures)
-      (smaller _ (c .args .roll .0) (c .args .roll .1) _ (d .0) (counted (c .in-Continue-dice .dice) (c .args .roll .0) (c .args .roll .1) _ (d .1) (c .if-turn-dice .left)) (w .0)
-        (λ f. omega (arith, full (f .1 .0) (f .1 .1), f .1 .2))
-        ( not-finished _ _ (c .in-Continue-after .after) (w .1) (not-from-decides _ (c .finished .ensures) (c .if-finished .left))
-        , (one .0, one .1, c .playable .ensures .0 (c .if-playable .taken), c .playable-then-playable .ensures .0 (c .if-playable-2 .taken))
-        , one .2 ))
+    (smaller _ (c .args .roll .0) (c .args .roll .1) _ (d .0) (counted (c .in-Continue-dice .dice) (c .args .roll .0) (c .args .roll .1) _ (d .1) (c .if-turn-dice .left)) (w .0)
+    (λ f. omega (arith, full (f .1 .0) (f .1 .1), f .1 .2)) (
+      not-finished _ _ (c .in-Continue-after .after) (w .1) (not-from-decides _ (c .finished .ensures) (c .if-finished .left)),
+      (one .0, one .1, c .playable .ensures .0 (c .if-playable .taken), c .playable-then-playable .ensures .0 (c .if-playable-2 .taken)),
+      one .2,
+    ))

@@ -1,0 +1,6 @@
+// One entry of the table of endings, over its lent parts and any kind of chance number.
+pub mod entry;
+pub mod lookup;
+pub mod moving;
+pub mod over;
+pub mod rolls;
