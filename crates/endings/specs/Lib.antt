@@ -5,3 +5,4 @@ pub mod Chance
 pub mod Length
 pub mod Exact
 pub mod Place
+pub mod Laws

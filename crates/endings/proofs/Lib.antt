@@ -1,0 +1,10 @@
+pub mod Lists
+pub mod Rolls
+pub mod Shifts
+pub mod Homes
+pub mod Leads
+pub mod Chances
+pub mod Lengths
+pub mod Settles
+pub mod Alike
+pub mod Short
