@@ -8,3 +8,10 @@ pub mod Lengths
 pub mod Settles
 pub mod Alike
 pub mod Short
+pub mod Counting
+pub mod Before
+pub mod Sorted
+pub mod Places
+pub mod Wide
+pub mod HomePlaces
+pub mod Falls

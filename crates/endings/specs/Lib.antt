@@ -6,3 +6,4 @@ pub mod Length
 pub mod Exact
 pub mod Place
 pub mod Laws
+pub mod PlaceLaws

@@ -1,3 +1,5 @@
+use Rattle.endings.specs.Laws.{Laws}
+use Rattle.endings.specs.PlaceLaws.{PlaceLaws}
 use Rattle.endings.proofs.Rolls.{weights}
 use Rattle.endings.proofs.Chances.{best-is, chance-le}
 use Rattle.endings.proofs.Leads.{moves, turn-leads}
@@ -5,10 +7,13 @@ use Rattle.endings.proofs.Alike.{own-same, listed-same}
 use Rattle.endings.proofs.Lengths.{most-after}
 use Rattle.endings.proofs.Short.{length-short}
 use Rattle.endings.proofs.Settles.{chance-same, chance-exact, exact-step}
+use Rattle.endings.proofs.Places.{sizes}
+use Rattle.endings.proofs.HomePlaces.{below, apart, each, first}
+use Rattle.endings.proofs.Falls.{move-falls, turn-falls}
 use Rattle.endings.proofs.laws_stand.Needs as need
 
-pub returns : need.returns
-returns c =
+chances : Laws
+chances =
     record {
       thirty-six = weights;
       bests = best-is;
@@ -22,3 +27,9 @@ returns c =
       settled = chance-exact;
       means = exact-step;
     }
+
+places : PlaceLaws
+places = record { sizes = sizes; below = below; apart = apart; each = each; first = first; move-falls = move-falls; turn-falls = turn-falls }
+
+pub returns : need.returns
+returns c = record { chances = chances; places = places }
