@@ -8,9 +8,9 @@ use lib.ListN.{length, getD, drop, replicate, length-append}
 use Rattle.std.specs.shelf.Lists.{sum}
 use Rattle.std.proofs.shelf.Lists.{getD-append-left, getD-append-add, getD-replicate, ext-getD}
 use Rattle.std.proofs.shelf.Sums.{sumBy-cons, sumBy-append, sumBy-drop-more}
-use Rattle.std.proofs.shelf.Tests.{cases-lt, eqb-true}
+use Rattle.std.proofs.shelf.Tests.{cases-lt, eqb-true, eq-eqb}
 use Rattle.board.specs.Side.{on, checkers, Complete}
-use Rattle.listing.proofs.Test.{clear-from}
+use Rattle.listing.proofs.Test.{clear-from, clear-true}
 use Rattle.endings.specs.Ending.{Home, left, HomeFor}
 use Rattle.endings.specs.Place.{countsFrom, counts}
 
@@ -38,12 +38,21 @@ module _ (a : List ℕ) (l : length a ≡ 7) where
   pub wide-home : sum a ≡ checkers → Home (wide a)
   wide-home e = record { long = wide-long; complete = wide-sum ∙ e; none = beyond }
 
--- a home side's checkers stand on points 1 to 6 or are borne off
+-- a side's checkers are borne off, on points 1 to 6, or above
+pub counts-sum : (side : List ℕ) → length side ≡ 26 → sum side ≡ on side 0 + sum (counts side) + sum (drop 7 side)
+counts-sum side l =
+    let d : (k : ℕ) → k ≤ 6 → sum (drop k side) ≡ on side k + sum (drop (k + 1) side) = λ k m. sumBy-drop-more (λ x. x) side k 0 (omega (arith, l)) in
+    omega (arith, d 0 (omega arith), d 1 (omega arith), d 2 (omega arith), d 3 (omega arith), d 4 (omega arith), d 5 (omega arith), d 6 (omega arith))
+
+-- a home side has none above
 pub counts-left : (side : List ℕ) → Home side → sum (counts side) + on side 0 ≡ checkers
-counts-left side h =
-    let d : (k : ℕ) → k ≤ 6 → sum (drop k side) ≡ on side k + sum (drop (k + 1) side) = λ k l. sumBy-drop-more (λ x. x) side k 0 (omega (arith, h .long)) in
-    let c = eqb-true _ 0 (clear-from side 6 (h .long) (h .none)) in
-    omega (arith, c, d 0 (omega arith), d 1 (omega arith), d 2 (omega arith), d 3 (omega arith), d 4 (omega arith), d 5 (omega arith), d 6 (omega arith), h .complete)
+counts-left side h = omega (arith, eqb-true _ 0 (clear-from side 6 (h .long) (h .none)), counts-sum side (h .long), h .complete)
+
+-- and a side that has none above and from which none is missing is home
+pub counts-home : (side : List ℕ) → length side ≡ 26 → Complete side → sum (counts side) + on side 0 ≡ checkers → Home side
+counts-home side l c e =
+    let z : sum (drop (6 + 1) side) ≡ 0 = omega (arith, counts-sum side l) in
+    record { long = l; complete = c; none = clear-true side 6 l (eq-eqb _ 0 z) }
 
 counts-on : (k : ℕ) (a b : List ℕ) → countsFrom k a ≡ countsFrom k b → (q : ℕ) → 1 ≤ q → q ≤ k → on a q ≡ on b q
 counts-on zero a b e q i j = absurd (omega arith)
