@@ -14,10 +14,19 @@ use Rattle.endings.proofs.Lists.{every, in-every}
 use Rattle.places.specs.Ways.{ways}
 use Rattle.places.proofs.ByWays.{gone, gone-is, ways-more}
 
-abbrev pub table : List ℕ
+abbrev pub table : List (List ℕ)
 table =
-    1 ∷ 1 ∷ 1 ∷ 1 ∷ 1 ∷ 1 ∷ 1 ∷ 1 ∷ 2 ∷ 3 ∷ 4 ∷ 5 ∷ 6 ∷ 7 ∷ 1 ∷ 3 ∷ 6 ∷ 10 ∷ 15 ∷ 21 ∷ 28 ∷ 1 ∷ 4 ∷ 10 ∷ 20 ∷ 35 ∷ 56 ∷ 84 ∷ 1 ∷ 5 ∷ 15 ∷ 35
-    ∷ 70 ∷ 126 ∷ 210 ∷ 1 ∷ 6 ∷ 21 ∷ 56 ∷ 126 ∷ 252 ∷ 462 ∷ 1 ∷ 7 ∷ 28 ∷ 84 ∷ 210 ∷ 462 ∷ 924 ∷ []
+    (1 ∷ 1 ∷ 1 ∷ 1 ∷ 1 ∷ 1 ∷ 1 ∷ [])
+    ∷ (1 ∷ 2 ∷ 3 ∷ 4 ∷ 5 ∷ 6 ∷ 7 ∷ [])
+    ∷ (1 ∷ 3 ∷ 6 ∷ 10 ∷ 15 ∷ 21 ∷ 28 ∷ [])
+    ∷ (1 ∷ 4 ∷ 10 ∷ 20 ∷ 35 ∷ 56 ∷ 84 ∷ [])
+    ∷ (1 ∷ 5 ∷ 15 ∷ 35 ∷ 70 ∷ 126 ∷ 210 ∷ [])
+    ∷ (1 ∷ 6 ∷ 21 ∷ 56 ∷ 126 ∷ 252 ∷ 462 ∷ [])
+    ∷ (1 ∷ 7 ∷ 28 ∷ 84 ∷ 210 ∷ 462 ∷ 924 ∷ [])
+    ∷ []
+
+abbrev pub entry : ℕ → ℕ → ℕ
+entry k n = getD (getD table k []) n 0
 
 abbrev nums : List ℕ
 nums = 0 ∷ 1 ∷ 2 ∷ 3 ∷ 4 ∷ 5 ∷ 6 ∷ []
@@ -33,16 +42,16 @@ in-nums (suc (suc (suc (suc (suc (suc zero)))))) l = inr (inr (inr (inr (inr (in
 in-nums (suc (suc (suc (suc (suc (suc (suc k))))))) l = absurd (omega arith)
 
 abbrev fits-table : ℕ → ℕ → Bool
-fits-table k n = eqb (getD table (k * 7 + n) 0) (ways k n) && leb (getD table (k * 7 + n) 0) 924
+fits-table k n = eqb (entry k n) (ways k n) && leb (entry k n) 924
 
 all-fit : every (λ k. every (fits-table k) nums) nums ≡ true
 unfolding ways sides
 all-fit = refl
 
-pub at-table : (k n : ℕ) → k ≤ 6 → n ≤ 6 → (getD table (k * 7 + n) 0 ≡ ways k n) × (getD table (k * 7 + n) 0 ≤ 924)
+pub at-table : (k n : ℕ) → k ≤ 6 → n ≤ 6 → (entry k n ≡ ways k n) × (entry k n ≤ 924)
 at-table k n i j =
     let a = in-every (λ k. every (fits-table k) nums) k nums all-fit (in-nums k i) in
-    let b = and-parts (eqb (getD table (k * 7 + n) 0) (ways k n)) _ (in-every (fits-table k) n nums a (in-nums n j)) in
+    let b = and-parts (eqb (entry k n) (ways k n)) _ (in-every (fits-table k) n nums a (in-nums n j)) in
     (eqb-true _ _ (b .0), leb-true _ _ (b .1))
 
 pub all-ways : (n : ℕ) → ways 6 n ≡ placesOf n
