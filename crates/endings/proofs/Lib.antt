@@ -15,3 +15,8 @@ pub mod Places
 pub mod Wide
 pub mod HomePlaces
 pub mod Falls
+pub mod Full
+pub mod Afters
+pub mod HomeMoves
+pub mod HomeTurns
+pub mod HomeChances
