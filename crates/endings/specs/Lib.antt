@@ -5,3 +5,5 @@ pub mod Chance
 pub mod Length
 pub mod Exact
 pub mod Place
+pub mod Laws
+pub mod PlaceLaws
