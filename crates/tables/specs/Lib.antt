@@ -1,3 +1,4 @@
 pub mod Parts
 pub mod Moving
 pub mod Sums
+pub mod Led

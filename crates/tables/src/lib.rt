@@ -1,6 +1,8 @@
 // One entry of the table of endings, over its lent parts and any kind of chance number.
 pub mod entry;
+pub mod led;
 pub mod lookup;
 pub mod moving;
 pub mod over;
 pub mod rolls;
+pub mod turning;
