@@ -2,3 +2,5 @@ pub mod Parts
 pub mod Moving
 pub mod Sums
 pub mod Led
+pub mod Loss
+pub mod Asking
