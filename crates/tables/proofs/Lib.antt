@@ -1,3 +1,4 @@
 pub mod Taken
 pub mod Summing
 pub mod Leading
+pub mod Visiting

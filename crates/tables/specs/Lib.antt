@@ -4,3 +4,4 @@ pub mod Sums
 pub mod Led
 pub mod Loss
 pub mod Asking
+pub mod Judging

@@ -21,7 +21,7 @@ use refusals::reason::Reason;
 use refusals::refusal::Refusal;
 
 // Whether a part has an entry for each pair of places.
-fn square(size: usize, count: usize) -> bool
+pub(crate) fn square(size: usize, count: usize) -> bool
     ensures { λ r. ⌜ Decides r (count ≡ size * size) ⌝ }
 {
     match size.checked_mul(size) {

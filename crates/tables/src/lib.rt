@@ -1,6 +1,7 @@
 // One entry of the table of endings, over its lent parts and any kind of chance number.
 pub mod ask;
 pub mod entry;
+pub mod judging;
 pub mod led;
 pub mod lookup;
 pub mod loss;
