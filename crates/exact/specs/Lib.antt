@@ -1,0 +1,4 @@
+pub mod Sound
+pub mod Stays
+pub mod Number
+pub mod Kept

@@ -1,0 +1,4 @@
+pub mod Sound
+pub mod Stays
+pub mod Range
+pub mod Kept
