@@ -6,8 +6,9 @@ use Prim.Native.Nat.{ℕ, _≤_}
 use native.Mathlib.Omega.{arith}
 use lib.Dec.{lit≤}
 use lib.ListN.{length}
-use Rattle.std.specs.shelf.Lists.{All}
 use Rattle.std.proofs.shelf.Tests.{cases-lt}
+use Rattle.refusals.specs.declared.reason.Reason.the-variants.{TooFewDice, SmallerDie}
+use Rattle.refusals.specs.Fields.{plain}
 use Rattle.board.specs.Single.{Legal}
 use Rattle.turns.specs.Roll.{Roll, rolled}
 use Rattle.turns.specs.Runs.{Move, Run}
@@ -19,7 +20,8 @@ use Rattle.listing.specs.Laws.{Sound}
 use Rattle.listing.proofs.Test.{decides}
 use Rattle.listing.proofs.Holds.{Ends, holds}
 use Rattle.listing.proofs.Whole.{meets-zero}
-use Rattle.specimens.specs.Specimens.{Stands, specimens, thirteen}
+use Rattle.specimens.specs.Cases.{allowed, refused, turn}
+use Rattle.specimens.specs.Specimens.{Stands, thirteen}
 
 none-of-two : turns 0 2 thirteen (rolled 6 5) ≡ []
 unfolding turns down
@@ -49,16 +51,14 @@ one-at-most ms run =
           absurd (rw none-of-two at i))
     ]
 
-pub shown : All Stands specimens
-shown = (
-  (roll, ((lit≤ tt, six, tt), inr (one-at-most, λ _. refl))),
-  (
+pub six-allowed : Stands (turn thirteen 6 5 ((13, 6) ∷ []) allowed)
+six-allowed = (roll, ((lit≤ tt, six, tt), inr (one-at-most, λ _. refl)))
+
+pub five-refused : Stands (turn thirteen 6 5 ((13, 5) ∷ []) (refused (plain SmallerDie)))
+five-refused =
     smaller thirteen 6 5 ((13, 5) ∷ []) roll (lit≤ tt) (lit≤ tt, five, tt)
-        (λ f. omega (arith, one-at-most (f .1 .0) (f .1 .1), f .1 .2))
-        ((λ f. omega (arith, f .1)), (refl, (λ e. omega (arith, e)), (13, six), (13, five)), (λ e. omega (arith, e))),
-    (
-      too-few thirteen 6 5 [] roll (lit≤ tt) tt ((λ f. omega (arith, f .0)), ((13, 6) ∷ [], (lit≤ tt, six, tt), lit≤ tt)),
-      tt,
-    ),
-  ),
-)
+    (λ f. omega (arith, one-at-most (f .1 .0) (f .1 .1), f .1 .2))
+    ((λ f. omega (arith, f .1)), (refl, (λ e. omega (arith, e)), (13, six), (13, five)), (λ e. omega (arith, e)))
+
+pub none-refused : Stands (turn thirteen 6 5 [] (refused (plain TooFewDice)))
+none-refused = too-few thirteen 6 5 [] roll (lit≤ tt) tt ((λ f. omega (arith, f .0)), ((13, 6) ∷ [], (lit≤ tt, six, tt), lit≤ tt))

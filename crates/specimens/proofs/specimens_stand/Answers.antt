@@ -1,4 +1,4 @@
-use Rattle.specimens.proofs.Turns.{shown}
+use Rattle.specimens.proofs.Shown.{shown}
 use Rattle.specimens.proofs.specimens_stand.Needs as need
 
 pub returns : need.returns
