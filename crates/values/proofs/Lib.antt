@@ -1,0 +1,5 @@
+pub mod Dice
+pub mod Bests
+pub mod Sums
+pub mod Judging
+pub mod Entries
