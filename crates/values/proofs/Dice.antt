@@ -1,14 +1,14 @@
 -- Every two dice are one of the 21 rolls, the larger first, and allow the same turns in either order.
 use mathlib.Core.Path.{_≡_, refl, sym, _∙_, ap, subst}
-use mathlib.Core.Logic.{_⊎_, inl, inr}
-use mathlib.Core.Bool.{Bool, true, false, cond, _&&_, _||_}
+use mathlib.Core.Logic.{inl, inr}
+use mathlib.Core.Bool.{Bool, true, false, cond, _&&_}
 use mathlib.Core.List.{List, [], _∷_}
 use Prim.Native.Nat.{ℕ, zero, suc, _≤_, _<_, max}
 use native.Mathlib.Omega.{arith}
 use lib.Dec.{eqb, leb}
 use lib.ListN.{replicate}
 use lib.Seq.{set-comm}
-use Rattle.std.proofs.shelf.Tests.{cases-lt, cases-bool, and-parts, eqb-true, eqb-false, le-leb, cond-true, cond-false, ne-eqb}
+use Rattle.std.proofs.shelf.Tests.{cases-lt, cases-bool, and-parts, eqb-true, eqb-false, le-leb, cond-true, ne-eqb}
 use Rattle.board.specs.Side.{checkers}
 use Rattle.board.specs.Position.{Position, swapped}
 use Rattle.turns.specs.Roll.{Die, Roll, rolled}

@@ -7,8 +7,7 @@ use Prim.Native.Nat.{ℕ, zero, suc, _-_, _*_, _≤_, _<_}
 use native.Mathlib.Omega.{arith}
 use lib.Dec.{leb}
 use Rattle.std.specs.shelf.Lists.{folded}
-use Rattle.std.proofs.shelf.Tests.{cases-bool, cond-true, cond-false, ne-eqb, le-leb, lt-leb}
-use Rattle.board.specs.Side.{on, checkers}
+use Rattle.std.proofs.shelf.Tests.{cases-bool, cond-true, cond-false, le-leb, lt-leb}
 use Rattle.board.specs.Position.{Position, swapped}
 use Rattle.turns.specs.Roll.{Roll}
 use Rattle.turns.specs.Runs.{Move, played}
@@ -27,30 +26,21 @@ use Rattle.values.specs.Best.{afterValue, bestOf, bestValue, sumValue}
 use Rattle.values.specs.Entry.{unlessEmpty, closedValue, valueWithin, valueEntry}
 use Rattle.values.specs.Laws.{Reached, Entered, Others}
 use Rattle.values.proofs.Dice.{reached}
+use Rattle.values.proofs.Exact.{own-left, other-left}
 use Rattle.values.proofs.Judging.{summed}
-
--- neither side of an ending is empty
-own-left : (p : Position) → Ending p → off p ≡ false
-own-left p e = ne-eqb (on (p .own) 0) checkers (λ z. omega (arith, z, e .mine))
-
-other-left : (p : Position) → Ending p → off (swapped p) ≡ false
-other-left p e = ne-eqb (on (p .other) 0) checkers (λ z. omega (arith, z, e .yours))
 
 module _ {V S R A B C : Type 0} (k : Ghosts V S R A B C) where
   -- two that have the same values at each ending to which p leads
   abbrev Alike : (Position → V) → (Position → V) → Position → Type 0
   Alike f g p = (q : Position) → Reached p q → f q ≡ g q
 
+  pub after-alike : (f g : Position → V) (p : Position) (x y : ℕ) (t : List Move) → Ending p → Roll x y → Allowed p x y t → Alike f g p → afterValue k f p t ≡ afterValue k g p t
+  after-alike f g p x y t e d a h =
+      elim (cases-bool (off (played p t))) [ inl o ↦ rw o | inr o ↦ rw (o, h (swapped (played p t)) (reached p x y t e d a o)) ]
+
   pub best-alike : (f g : Position → V) (p : Position) (x y : ℕ) → Ending p → Roll x y → Alike f g p → bestValue k f p (x, y) ≡ bestValue k g p (x, y)
   best-alike f g p x y e d h =
-      ap (bestOf k)
-      (map-same (afterValue k f p) (afterValue k g p) (listed p x y)
-      (λ t j.
-      let a = listed-is p x y (sound p e) .only t j in
-      elim (cases-bool (off (played p t))) [
-        | inl o ↦ rw o
-        | inr o ↦ rw (o, h (swapped (played p t)) (reached p x y t e d a o))
-      ]))
+      ap (bestOf k) (map-same (afterValue k f p) (afterValue k g p) (listed p x y) (λ t j. after-alike f g p x y t e d (listed-is p x y (sound p e) .only t j) h))
 
   added-alike : (f g : TwoDice → V) (s : S) (rs : List TwoDice) → ((r : TwoDice) → In r rs → f r ≡ g r) → folded (λ s r. k .added s (weight r) (f r)) s rs ≡ folded (λ s r. k .added s (weight r) (g r)) s rs
   added-alike f g s [] h = refl

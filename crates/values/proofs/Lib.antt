@@ -1,4 +1,5 @@
 pub mod Dice
+pub mod Exact
 pub mod Bests
 pub mod Sums
 pub mod Judging

@@ -1,21 +1,22 @@
 -- What holds of the entries of a table, for every kind.
 use mathlib.Core.Path.{_≡_}
 use mathlib.Core.Bool.{true, false}
-use mathlib.Core.List.{List}
+use mathlib.Core.List.{List, map}
 use Prim.Native.Nat.{ℕ, suc, _-_, _*_, _^_, _≤_, _<_}
 use Rattle.board.specs.Position.{Position, swapped}
 use Rattle.turns.specs.Roll.{Roll}
 use Rattle.turns.specs.Runs.{Move, played}
 use Rattle.turns.specs.Turns.{Allowed}
-use Rattle.listing.specs.Order.{off}
+use Rattle.listing.specs.Order.{off, greatest, listed}
 use Rattle.chance.specs.Fraction.{over36}
 use Rattle.chance.specs.Held.{Held}
 use Rattle.chance.specs.declared.kind.Chance.{Ghosts}
 use Rattle.endings.specs.Ending.{Ending}
 use Rattle.endings.specs.Chance.{after, best, chance}
-use Rattle.endings.specs.Length.{lengthOf}
+use Rattle.endings.specs.Length.{more, lengthOf}
+use Rattle.endings.specs.Rolls.{rolls}
 use Rattle.values.specs.Best.{afterValue, bestValue, sumValue}
-use Rattle.values.specs.Entry.{valueWithin, valueEntry}
+use Rattle.values.specs.Entry.{lengthEntry, valueWithin, valueEntry}
 
 -- q is an ending of the other player, shorter than p, to which an allowed turn of p leads
 pub record Reached (p q : Position) : Type 0 where
@@ -63,7 +64,8 @@ module _ {V S R A B C : Type 0} (k : Ghosts V S R A B C) where
     -- and over any others that hold the exact chances of the endings to which p leads
     pub judged : (others : Position → V) (p : Position) → Ending p → Others others p → Judged others p
     pub summed : (others : Position → V) (p : Position) → Ending p → lengthOf p ≤ k .reach → Others others p → Summed others p
-    -- best and sum rest on the endings to which p leads alone
+    -- after, best and sum rest on the endings to which p leads alone
+    pub after-alike : (f g : Position → V) (p : Position) (x y : ℕ) (t : List Move) → Ending p → Roll x y → Allowed p x y t → ((q : Position) → Reached p q → f q ≡ g q) → afterValue k f p t ≡ afterValue k g p t
     pub best-alike : (f g : Position → V) (p : Position) (x y : ℕ) → Ending p → Roll x y → ((q : Position) → Reached p q → f q ≡ g q) → bestValue k f p (x, y) ≡ bestValue k g p (x, y)
     pub sum-alike : (f g : Position → V) (p : Position) → Ending p → ((q : Position) → Reached p q → f q ≡ g q) → sumValue k f p ≡ sumValue k g p
     -- which value an entry is: won, lost, the closed sum over the entries, or lost past the reach
@@ -71,5 +73,8 @@ module _ {V S R A B C : Type 0} (k : Ghosts V S R A B C) where
     pub lost : (p : Position) → off p ≡ false → off (swapped p) ≡ true → valueEntry k p ≡ k .lost
     pub step : (p : Position) → Ending p → lengthOf p ≤ k .reach → valueEntry k p ≡ k .closed (sumValue k (valueEntry k) p)
     pub past : (p : Position) → Ending p → k .reach < lengthOf p → valueEntry k p ≡ k .lost
-    -- it does not rest on the number of rolls over which it is reckoned
+    -- which length: in an ending the most rolls to come, 1 plus the greatest after a turn of any roll over others that have the lengths of the endings to which p leads
+    pub length : (p : Position) → Ending p → lengthEntry p ≡ lengthOf p
+    pub length-from : (others : Position → ℕ) (p : Position) → Ending p → ((q : Position) → Reached p q → others q ≡ lengthOf q) → lengthOf p ≡ suc (greatest (map (λ r. greatest (map (more others p) (listed p (r .0) (r .1)))) rolls))
+    -- the value does not rest on the number of rolls over which it is reckoned
     pub within : (n : ℕ) (p : Position) → Ending p → lengthOf p ≤ n → valueWithin k n p ≡ valueEntry k p
