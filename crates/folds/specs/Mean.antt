@@ -33,6 +33,10 @@ weights ps = map (λ p. p .0) ps
 abbrev pub values : {V : Type 0} → List (ℕ × V) → List V
 values ps = map (λ p. p .1) ps
 
+-- the weights in all
+abbrev pub in-all : {V : Type 0} → List (ℕ × V) → ℕ
+in-all ps = sumBy (λ p. p .0) ps
+
 -- the sum after all parts have been added to it, in order
 abbrev pub summed : {V S R A B C : Type 0} → Ghosts V S R A B C → S → List (ℕ × V) → S
 summed k s ps = folded (λ s p. k .added s (p .0) (p .1)) s ps
@@ -40,7 +44,7 @@ summed k s ps = folded (λ s p. k .added s (p .0) (p .1)) s ps
 -- the parts can be added and closed
 pub record Ready {V S R A B C : Type 0} (k : Ghosts V S R A B C) (ps : List (ℕ × V)) : Type 0 where
   pub fit : All-fit 0 (weights ps)
-  pub full : sumBy (λ p. p .0) ps ≡ 36
+  pub full : in-all ps ≡ 36
   pub young : oldest-from k 0 (values ps) < k .reach
 
 -- the mean of the parts: which refusal or value is answered, what the value holds, and its age
@@ -48,9 +52,9 @@ pub record Mean {V S R A B C : Type 0} (k : Ghosts V S R A B C) (ps : List (ℕ 
   -- first, a weight that does not fit the sum before it
   pub misfit : (All-fit 0 (weights ps) → ⊥) → r ≡ Err (plain WeightOutOfRange)
   -- then, less than 36 in all
-  pub short : All-fit 0 (weights ps) → sumBy (λ p. p .0) ps < 36 → r ≡ Err (plain SumNotFull)
+  pub short : All-fit 0 (weights ps) → in-all ps < 36 → r ≡ Err (plain SumNotFull)
   -- then, the greatest age is the reach
-  pub old : All-fit 0 (weights ps) → sumBy (λ p. p .0) ps ≡ 36 → k .reach ≤ oldest-from k 0 (values ps) → r ≡ Err (plain SumTooOld)
+  pub old : All-fit 0 (weights ps) → in-all ps ≡ 36 → k .reach ≤ oldest-from k 0 (values ps) → r ≡ Err (plain SumTooOld)
   -- otherwise the closed sum
   pub done : Ready k ps → r ≡ Ok (k .closed (summed k (k .empty) ps))
   -- which holds the weighted mean of whatever fractions the values hold

@@ -1,0 +1,6 @@
+pub mod Dice
+pub mod Exact
+pub mod Bests
+pub mod Sums
+pub mod Judging
+pub mod Entries
