@@ -2,3 +2,5 @@ pub mod Taken
 pub mod Summing
 pub mod Leading
 pub mod Visiting
+pub mod Linked
+pub mod Entering

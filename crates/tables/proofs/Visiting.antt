@@ -15,7 +15,8 @@ use Rattle.endings.specs.Ending.{HomeFor}
 use Rattle.endings.specs.Place.{place}
 use Rattle.places.specs.Asked.{Size}
 use Rattle.tables.specs.declared.judging.Best.{Best}
-use Rattle.tables.specs.Parts.{afterPlace, bestOf}
+use Rattle.values.specs.Best.{bestOf}
+use Rattle.tables.specs.Parts.{afterPlace}
 
 pub map-twice : {X Y Z : Type 0} (f : Y → Z) (g : X → Y) (xs : List X) → map (λ x. f (g x)) xs ≡ map f (map g xs)
 map-twice f g [] = refl

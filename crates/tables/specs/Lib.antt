@@ -5,3 +5,4 @@ pub mod Led
 pub mod Loss
 pub mod Asking
 pub mod Judging
+pub mod Filled

@@ -1,12 +1,12 @@
 -- Reading the lent parts of a table. The entry of the roller's place a and the other's place b stands at a × size + b.
 use mathlib.Core.Bool.{cond}
-use mathlib.Core.List.{List, [], _∷_, map}
-use Prim.Native.Nat.{ℕ, suc, _+_, _*_}
+use mathlib.Core.List.{List, map}
+use Prim.Native.Nat.{ℕ, _+_, _*_}
 use lib.Dec.{eqb}
 use lib.ListN.{getD}
-use Rattle.std.specs.shelf.Lists.{folded}
 use Rattle.chance.specs.declared.kind.Chance.{Ghosts}
 use Rattle.listing.specs.Order.{greatest}
+use Rattle.values.specs.Best.{bestOf}
 
 -- the length entry, 0 past the end of the part
 abbrev pub lengthAt : ℕ → List ℕ → ℕ → ℕ → ℕ
@@ -29,11 +29,6 @@ module _ {V S R A B C : Type 0} (k : Ghosts V S R A B C) where
   abbrev pub afterPlace : ℕ → List R → ℕ → ℕ → V
   afterPlace size rows b q = cond (eqb q 0) (k .won) (k .turned (valueAt size rows b q))
 
-  -- the better of the best so far and the next, begun with the first
-  abbrev pub bestOf : List V → V
-  bestOf [] = k .lost
-  bestOf (v ∷ vs) = folded (k .better) v vs
-
   -- the best of a roll whose turns lead to these places, in their order
   abbrev pub bestPlace : ℕ → List R → ℕ → List ℕ → V
-  bestPlace size rows b qs = bestOf (map (afterPlace size rows b) qs)
+  bestPlace size rows b qs = bestOf k (map (afterPlace size rows b) qs)

@@ -3,6 +3,7 @@ ghost use mathlib.Core.Path.{_≡_};
 ghost use Rattle.endings.specs.Rolls.{rolls};
 ghost use Rattle.tables.specs.Moving.{placeLists};
 ghost use Rattle.tables.specs.Sums.{entryLength, entryValue, sumOver, settled};
+ghost use Rattle.tables.specs.Filled.{SoundEntry};
 use crate::moving::SideTurns;
 use crate::over::best_over;
 use crate::over::length_over;
@@ -39,7 +40,8 @@ fn mean_of_rolls<K: Chance>(size: usize, rows: &[K::Row], b: usize, turns: &Side
 
 // Length and value of the entry of a roller with these turns against the other side's place b.
 pub fn entry<K: Chance>(size: usize, lengths: &[u8], rows: &[K::Row], b: usize, turns: &SideTurns) -> (u8, K)
-    ensures { λ r. ⌜ r ≡ (entryLength size (now (lengths .entry)) b (placeLists (now (turns .entry))), entryValue K·Chance size (now (rows .entry)) b (entryLength size (now (lengths .entry)) b (placeLists (now (turns .entry)))) (placeLists (now (turns .entry)))) ⌝ }
+    ensures value { λ r. ⌜ r ≡ (entryLength size (now (lengths .entry)) b (placeLists (now (turns .entry))), entryValue K·Chance size (now (rows .entry)) b (entryLength size (now (lengths .entry)) b (placeLists (now (turns .entry)))) (placeLists (now (turns .entry)))) ⌝ }
+    ensures sound { λ r. ⌜ SoundEntry K·Chance size b (placeLists (now (turns .entry))) (now (lengths .entry)) (now (rows .entry)) r ⌝ }
 {
     let length = length_of(size, lengths, b, turns);
     if length as u64 > reach_of::<K>() {

@@ -12,6 +12,7 @@ ghost use Rattle.endings.specs.Place.{place, placesOf};
 ghost use Rattle.places.specs.Asked.{Size, PlaceOf};
 ghost use Rattle.tables.specs.Parts.{afterPlace};
 ghost use Rattle.tables.specs.Judging.{RollBest, Unjudged};
+ghost use Rattle.tables.specs.Filled.{SoundBest};
 use crate::ask::square;
 use crate::lookup::after_place;
 use board::board::Board;
@@ -84,7 +85,8 @@ fn facing_place(n: u8, b: &Board) -> Option<usize>
 
 // The best of a roll in an ending for n: in listing order, the better of the best so far and the next turn's after-value.
 pub fn roll_best<K: Chance>(n: u8, b: &Board, roll: (u8, u8), rows: &[K::Row]) -> Result<K, Refusal>
-    ensures { λ r. ⌜ Cases r (RollBest K·Chance n (position (now (b .entry))) roll (now (rows .entry))) (Unjudged K·Chance n (position (now (b .entry))) roll (now (rows .entry))) ⌝ }
+    ensures answer { λ r. ⌜ Cases r (RollBest K·Chance n (position (now (b .entry))) roll (now (rows .entry))) (Unjudged K·Chance n (position (now (b .entry))) roll (now (rows .entry))) ⌝ }
+    ensures sound { λ r. ⌜ Cases r (SoundBest K·Chance n (position (now (b .entry))) roll (now (rows .entry))) (λ _. Unit {0}) ⌝ }
 {
     if let Err(refusal) = dice_of(roll) {
         return Err(refusal);

@@ -5,7 +5,8 @@ use native.Mathlib.Omega.{arith}
 use lib.ListN.{length, drop}
 use Rattle.std.specs.shelf.Lists.{folded}
 use Rattle.std.proofs.shelf.Lists.{drop-all}
-use Rattle.tables.specs.Parts.{afterPlace, bestOf, bestPlace}
+use Rattle.values.specs.Best.{bestOf}
+use Rattle.tables.specs.Parts.{afterPlace, bestPlace}
 use Rattle.tables.proofs.Taken.{fold-first, fold-more, none-taken}
 use Rattle.tables.proofs.over.best_over.Needs as need
 
