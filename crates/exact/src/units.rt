@@ -7,6 +7,10 @@ ghost use Rattle.exact.specs.Sound.{exact-scale, exact-reach, unit-of, Sound};
 // 36^11
 pub(crate) const SCALE: u64 = 131_621_703_842_267_136;
 
+pub(crate) const GRAIN: u64 = 0;
+
+pub(crate) const REACH: u64 = 11;
+
 // What is left of the scale above a number.
 pub(crate) fn above(number: u64) -> u64
     requires { ⌜ number ≤ exact-scale ⌝ }
@@ -45,7 +49,7 @@ pub(crate) fn unit(age: u8) -> u64
 pub(crate) fn sound(number: u64, age: u8) -> bool
     ensures { λ r. ⌜ Decides r (Sound number age) ⌝ }
 {
-    if number > SCALE || age > 11 {
+    if number > SCALE || age as u64 > REACH {
         return false;
     }
     number % unit(age) == 0

@@ -4,7 +4,14 @@ ghost use Prim.Native.Nat.{_+_, _-_, _*_, _/_, _≤_, max};
 ghost use Rattle.std.specs.Orderings.{Decides};
 ghost use Rattle.fixed.specs.Sound.{fixed-scale, Sound};
 
-pub(crate) const WHOLE: u32 = 1_000_000_000;
+pub(crate) const SCALE: u64 = 1_000_000_000;
+
+pub(crate) const GRAIN: u64 = 1;
+
+pub(crate) const REACH: u64 = 60;
+
+// The scale as an end.
+pub(crate) const WHOLE: u32 = SCALE as u32;
 
 // Both ends from the other player's side.
 pub(crate) fn turned_ends(lower: u32, upper: u32) -> (u32, u32)
@@ -51,5 +58,5 @@ pub(crate) fn mean_up(total: u64) -> u32
 pub(crate) fn sound(lower: u32, upper: u32, age: u8) -> bool
     ensures { λ r. ⌜ Decides r (Sound lower upper age) ⌝ }
 {
-    lower <= upper && upper <= WHOLE && upper - lower <= age as u32 && age <= 60
+    lower <= upper && upper <= WHOLE && upper - lower <= age as u32 && age as u64 <= REACH
 }

@@ -7,6 +7,8 @@ ghost use Rattle.exact.specs.Kept.{exact-rules};
 use super::Exact;
 use super::ExactRow;
 use super::ExactSum;
+use crate::units::GRAIN;
+use crate::units::REACH;
 use crate::units::SCALE;
 use crate::units::above;
 use crate::units::greater;
@@ -19,10 +21,6 @@ use chance::sums::admit;
 use chance::sums::closable;
 use chance::sums::older;
 use refusals::refusal::Refusal;
-
-const GRAIN: u64 = 0;
-
-const REACH: u64 = 11;
 
 // The sum with a value added by a weight that fits.
 fn joined(sum: &ExactSum, by: u64, value: Exact) -> ExactSum

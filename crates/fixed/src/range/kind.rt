@@ -7,6 +7,9 @@ ghost use Rattle.fixed.specs.Kept.{fixed-rules};
 use super::Fixed;
 use super::FixedRow;
 use super::FixedSum;
+use crate::ends::GRAIN;
+use crate::ends::REACH;
+use crate::ends::SCALE;
 use crate::ends::WHOLE;
 use crate::ends::better_ends;
 use crate::ends::mean_down;
@@ -21,12 +24,6 @@ use chance::sums::admit;
 use chance::sums::closable;
 use chance::sums::older;
 use refusals::refusal::Refusal;
-
-const SCALE: u64 = 1_000_000_000;
-
-const GRAIN: u64 = 1;
-
-const REACH: u64 = 60;
 
 // A range of one number, of age 0.
 fn certain(end: u32) -> Fixed
