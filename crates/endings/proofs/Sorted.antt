@@ -14,7 +14,7 @@ use Rattle.listing.specs.Listing.{In}
 use Rattle.listing.proofs.In.{in-cases, in-left, in-right, in-map, map-in}
 use Rattle.endings.specs.Place.{before, upto, sides}
 
-upto-in : {X : Type 0} (x : X) (f : ℕ → List X) (n k : ℕ) → k ≤ n → In x (f k) → In x (upto f n)
+pub upto-in : {X : Type 0} (x : X) (f : ℕ → List X) (n k : ℕ) → k ≤ n → In x (f k) → In x (upto f n)
 upto-in x f zero k l i = let e : k ≡ 0 = omega arith in subst (λ k. In x (f k)) e i
 upto-in x f (suc n) k l i =
     elim (cases-lt k (suc n)) [
