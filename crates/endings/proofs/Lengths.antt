@@ -1,12 +1,12 @@
 -- What lengths are.
-use mathlib.Core.Path.{_≡_, refl, sym, _∙_, ap, subst}
-use mathlib.Core.Logic.{_⊎_, inl, inr}
-use mathlib.Core.Bool.{true, false}
-use mathlib.Core.List.{List, [], _∷_, map}
-use Prim.Native.Nat.{ℕ, zero, suc, _+_, _-_, _*_, _^_, _≤_, _<_, max}
+use mathlib.Core.Path.{_≡_, _∙_, ap}
+use mathlib.Core.Logic.{inl, inr}
+use mathlib.Core.Bool.{false}
+use mathlib.Core.List.{List, map}
+use Prim.Native.Nat.{ℕ, zero, suc, _≤_, _<_}
 use native.Mathlib.Omega.{arith}
 use Rattle.std.proofs.shelf.Tests.{cases-bool, eqb-false}
-use Rattle.board.specs.Side.{on, less, shifted, checkers, Complete}
+use Rattle.board.specs.Side.{checkers}
 use Rattle.board.specs.Position.{Position, swapped}
 use Rattle.turns.specs.Roll.{Roll}
 use Rattle.turns.specs.Runs.{Move, played}
@@ -17,7 +17,7 @@ use Rattle.listing.specs.Laws.{Sound}
 use Rattle.listing.proofs.Listed.{listed-is}
 use Rattle.listing.proofs.Some.{some-allowed}
 use Rattle.endings.specs.Ending.{Ending}
-use Rattle.endings.specs.Pips.{pips, bothPips}
+use Rattle.endings.specs.Pips.{bothPips}
 use Rattle.endings.specs.Rolls.{TwoDice, rolls}
 use Rattle.endings.specs.Length.{more, lasts, lengthOf, MostAfter}
 use Rattle.endings.proofs.Lists.{map-same, mapped-bound, greatest-le, greatest-reached}

@@ -1,12 +1,12 @@
 -- Greatest values and sums over lists.
-use mathlib.Core.Path.{_≡_, refl, sym, _∙_, ap, subst}
-use mathlib.Core.Logic.{_⊎_, inl, inr}
+use mathlib.Core.Path.{_≡_, refl, sym}
+use mathlib.Core.Logic.{inl, inr}
 use mathlib.Core.Bool.{Bool, true, false, _&&_, _||_}
 use mathlib.Core.List.{List, [], _∷_, map}
-use Prim.Native.Nat.{ℕ, zero, suc, _+_, _-_, _*_, _^_, _≤_, _<_, max}
+use Prim.Native.Nat.{ℕ, _*_, _≤_}
 use native.Mathlib.Nat.{mul-le-mul-left}
 use native.Mathlib.Omega.{arith}
-use Rattle.std.specs.shelf.Lists.{sum, sumBy, countBy}
+use Rattle.std.specs.shelf.Lists.{sumBy}
 use Rattle.std.proofs.shelf.Sums.{sumBy-cons}
 use Rattle.std.proofs.shelf.Tests.{and-parts, or-cases, false≢true}
 use Rattle.listing.specs.Listing.{In}
