@@ -1,16 +1,14 @@
 -- What exact chances are.
-use mathlib.Core.Path.{_≡_, refl, sym, _∙_, ap, subst}
-use mathlib.Core.Logic.{_⊎_, inl, inr}
-use mathlib.Core.Bool.{cond}
-use mathlib.Core.List.{List, [], _∷_, map}
-use Prim.Native.Nat.{ℕ, zero, suc, _+_, _-_, _*_, _^_, _≤_, _<_, max}
+use mathlib.Core.Logic.{inl, inr}
+use mathlib.Core.List.{List}
+use Prim.Native.Nat.{ℕ, zero, suc, _^_, _≤_}
 use native.Mathlib.Nat.{pow-suc}
 use native.Mathlib.Omega.{arith}
 use Rattle.std.proofs.shelf.Tests.{cases-bool}
-use Rattle.board.specs.Position.{Position, swapped}
+use Rattle.board.specs.Position.{Position}
 use Rattle.turns.specs.Runs.{Move, played}
 use Rattle.turns.specs.Roll.{Roll}
-use Rattle.listing.specs.Order.{off, greatest, listed}
+use Rattle.listing.specs.Order.{off, listed}
 use Rattle.listing.specs.Laws.{Sound}
 use Rattle.listing.proofs.Listed.{listed-is}
 use Rattle.listing.proofs.Some.{some-allowed}

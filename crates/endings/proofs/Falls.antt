@@ -1,10 +1,9 @@
 -- Every move leads to an earlier place.
-use mathlib.Core.Path.{_≡_, refl, sym, _∙_, ap, subst}
-use mathlib.Core.Logic.{_⊎_, inl, inr}
+use mathlib.Core.Path.{_≡_}
 use mathlib.Core.List.{List, [], _∷_}
 use Prim.Native.Nat.{ℕ, zero, suc, _+_, _-_, _≤_, _<_}
 use native.Mathlib.Omega.{arith}
-use lib.ListN.{length, getD, length-set}
+use lib.ListN.{length, length-set}
 use Rattle.std.proofs.shelf.Lists.{getD-set-same, getD-set-other}
 use Rattle.board.specs.Side.{on, less, shifted, checkers}
 use Rattle.board.specs.Position.{Position, swapped}
@@ -12,7 +11,7 @@ use Rattle.board.specs.Single.{Legal, moved}
 use Rattle.turns.specs.Roll.{Roll, rolled}
 use Rattle.turns.specs.Runs.{Move, Run, played}
 use Rattle.turns.specs.Turns.{Allowed}
-use Rattle.endings.specs.Ending.{Home, left, HomeFor, Ending, EndingFor}
+use Rattle.endings.specs.Ending.{HomeFor, EndingFor}
 use Rattle.endings.specs.Place.{place}
 use Rattle.endings.proofs.Shifts.{start-home, shifted-home}
 use Rattle.endings.proofs.Leads.{moves, leads, turn-leads}

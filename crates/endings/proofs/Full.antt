@@ -2,12 +2,12 @@
 use mathlib.Core.Path.{_≡_, refl, sym, _∙_, ap, subst}
 use mathlib.Core.Logic.{_⊎_, inl, inr}
 use mathlib.Core.List.{List, [], _∷_}
-use Prim.Native.Nat.{ℕ, zero, suc, _+_, _-_, _*_, _≤_, _<_}
+use Prim.Native.Nat.{ℕ, suc, _≤_, _<_}
 use native.Mathlib.Omega.{arith}
 use lib.Dec.{eqb}
 use lib.ListN.{length, getD, set, replicate, length-set}
 use Rattle.std.specs.shelf.Lists.{sum}
-use Rattle.std.proofs.shelf.Lists.{getD-set-same, getD-set-other, getD-replicate}
+use Rattle.std.proofs.shelf.Lists.{getD-set-other, getD-replicate}
 use Rattle.std.proofs.shelf.Sums.{sumBy-cons, sumBy-set}
 use Rattle.std.proofs.shelf.Tests.{cases-lt, cases-bool, eqb-false}
 use Rattle.board.specs.Side.{on, less, checkers}
@@ -19,7 +19,7 @@ use Rattle.turns.specs.Runs.{Move, Run, played}
 use Rattle.turns.specs.Turns.{Allowed}
 use Rattle.turns.proofs.Runs.{run-few}
 use Rattle.listing.specs.Order.{turns, listed}
-use Rattle.listing.specs.Listing.{In, Listing}
+use Rattle.listing.specs.Listing.{Listing}
 use Rattle.listing.proofs.Holds.{Ends, held, holds, in-order}
 use Rattle.listing.proofs.Whole.{meets-zero}
 use Rattle.listing.proofs.Some.{the-listing}

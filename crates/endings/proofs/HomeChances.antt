@@ -1,9 +1,9 @@
 -- Exact chances and lengths of endings, reckoned on seven counts.
 use mathlib.Core.Path.{_≡_, refl, sym, _∙_, ap, subst}
-use mathlib.Core.Logic.{_⊎_, inl, inr}
-use mathlib.Core.Bool.{Bool, true, false, cond, _&&_, _||_}
+use mathlib.Core.Logic.{inl, inr}
+use mathlib.Core.Bool.{Bool, false, cond}
 use mathlib.Core.List.{List, [], _∷_, map}
-use Prim.Native.Nat.{ℕ, zero, suc, _+_, _-_, _*_, _^_, _≤_, _<_}
+use Prim.Native.Nat.{ℕ, zero, suc, _-_, _*_, _^_, _≤_}
 use native.Mathlib.Omega.{arith}
 use lib.Dec.{eqb, ltb}
 use lib.ListN.{length, length-set}
@@ -21,7 +21,7 @@ use Rattle.endings.specs.Ending.{Ending}
 use Rattle.endings.specs.Rolls.{TwoDice, rolls, weight}
 use Rattle.endings.specs.Chance.{best, chance}
 use Rattle.endings.specs.Length.{more, lasts}
-use Rattle.endings.proofs.Lists.{map-same, greatest-le, sum-same}
+use Rattle.endings.proofs.Lists.{map-same, greatest-le, sum-same, any}
 use Rattle.endings.proofs.Rolls.{rolls-fine}
 use Rattle.endings.proofs.Leads.{turn-leads}
 use Rattle.endings.proofs.Lengths.{sound}
@@ -33,10 +33,6 @@ use Rattle.endings.proofs.HomeTurns.{homeAfters, quick}
 
 abbrev pub empty : List ℕ → Bool
 empty a = eqb (on a 0) checkers
-
-abbrev pub any : {X : Type 0} → (X → Bool) → List X → Bool
-any p [] = false
-any p (x ∷ xs) = p x || any p xs
 
 abbrev pub results : List ℕ → TwoDice → List (List ℕ)
 results a r = let dice = rolled (r .0) (r .1) in homeAfters (sum dice) a dice
@@ -64,6 +60,13 @@ byDie n a dice d = cond (ltb 0 (on dice d)) (down (byStart n a dice d) 6) []
 shifted-same : (a : List ℕ) (s t : ℕ) → length (shifted a s t) ≡ length a
 shifted-same a s t = length-set (less a s) t _ ∙ length-set a s _
 
+module _ (n : ℕ) (a dice c : List ℕ) (again : (b dice : List ℕ) → In c (homeAfters n b dice) → length c ≡ length b) where
+  start-long : (d s : ℕ) → In c (byStart n a dice d s) → length c ≡ length a
+  start-long d s i = again (shifted a s (s - d)) (less dice d) (in-cond c (homeMay a s d) _ i .1) ∙ shifted-same a s (s - d)
+
+  die-long : (d : ℕ) → In c (byDie n a dice d) → length c ≡ length a
+  die-long d i = let s = in-down c (byStart n a dice d) 6 (in-cond c (ltb 0 (on dice d)) _ i .1) in start-long d (s .0) (s .3)
+
 pub results-long : (n : ℕ) (a dice c : List ℕ) → In c (homeAfters n a dice) → length c ≡ length a
 unfolding homeAfters
 results-long zero a dice c (inl e) = ap length e
@@ -74,10 +77,7 @@ results-long (suc n) a dice c i =
       | inr e ↦
           (let j : In c (down (byDie n a dice) 6) = rw e at i in
           let d = in-down c (byDie n a dice) 6 j in
-          let k = in-cond c (ltb 0 (on dice (d .0))) (down (byStart n a dice (d .0)) 6) (d .3) in
-          let s = in-down c (byStart n a dice (d .0)) 6 (k .1) in
-          let m = in-cond c (homeMay a (s .0) (d .0)) (homeAfters n (shifted a (s .0) (s .0 - d .0)) (less dice (d .0))) (s .3) in
-          results-long n (shifted a (s .0) (s .0 - d .0)) (less dice (d .0)) c (m .1) ∙ shifted-same a (s .0) (s .0 - d .0))
+          die-long n a dice c (λ b dice′ k. results-long n b dice′ c k) (d .0) (d .3))
     ]
 
 pub exit : (w : ℕ) (g : List ℕ → ℕ) (cs : List (List ℕ)) → greatest (map (λ c. cond (empty c) w (w - g c)) cs) ≡ cond (any empty cs) w (greatest (map (λ c. w - g c) cs))

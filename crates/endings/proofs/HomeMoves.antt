@@ -1,12 +1,12 @@
 -- Single moves of home sides that are written by seven counts.
-use mathlib.Core.Path.{_≡_, refl, sym, _∙_, ap}
-use mathlib.Core.Logic.{_⊎_, inl, inr}
+use mathlib.Core.Path.{_≡_, _∙_, ap}
+use mathlib.Core.Logic.{inl, inr}
 use mathlib.Core.Bool.{Bool, true, false, cond, _&&_, _||_}
-use mathlib.Core.List.{List, [], _∷_, _++_}
+use mathlib.Core.List.{List, _++_}
 use Prim.Native.Nat.{ℕ, _+_, _-_, _≤_, _<_}
 use native.Mathlib.Omega.{arith}
 use lib.Dec.{eqb, leb, ltb}
-use lib.ListN.{length, set, drop, replicate, length-set}
+use lib.ListN.{length, drop, replicate, length-set}
 use Rattle.std.specs.shelf.Lists.{sum}
 use Rattle.std.proofs.shelf.Lists.{set-append-left, drop-append-le}
 use Rattle.std.proofs.shelf.Sums.{sumBy-append}

@@ -1,15 +1,15 @@
 -- Moves of a home side against a home side.
-use mathlib.Core.Path.{_≡_, refl, sym, _∙_, ap, subst}
+use mathlib.Core.Path.{_≡_}
 use mathlib.Core.Logic.{_⊎_, inl, inr}
 use mathlib.Core.Bool.{false}
 use mathlib.Core.List.{List}
-use Prim.Native.Nat.{ℕ, zero, suc, _+_, _-_, _*_, _^_, _≤_, _<_, max}
+use Prim.Native.Nat.{ℕ, zero, suc, _-_, _≤_, _<_}
 use native.Mathlib.Omega.{arith}
 use lib.Dec.{eqb}
 use Rattle.std.proofs.shelf.Sums.{sumBy-drop-more, getD-le-sumBy}
 use Rattle.std.proofs.shelf.Tests.{cases-lt, eqb-true, ne-eqb, lt-ltb, le-ltb}
-use Rattle.board.specs.Side.{on, less, shifted, checkers, Complete}
-use Rattle.board.specs.Position.{Position, swapped}
+use Rattle.board.specs.Side.{on, checkers}
+use Rattle.board.specs.Position.{Position}
 use Rattle.board.specs.Single.{Legal, moved}
 use Rattle.turns.specs.Turns.{Playable}
 use Rattle.listing.proofs.Test.{clear-from}

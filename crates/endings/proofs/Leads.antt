@@ -1,16 +1,16 @@
 -- What a turn of an ending leads to.
 use mathlib.Core.Path.{_≡_, refl, sym, _∙_, ap, subst}
-use mathlib.Core.Logic.{_⊎_, inl, inr}
+use mathlib.Core.Logic.{inl, inr}
 use mathlib.Core.List.{List, [], _∷_}
-use Prim.Native.Nat.{ℕ, zero, suc, _+_, _-_, _*_, _^_, _≤_, _<_, max}
+use Prim.Native.Nat.{ℕ, _+_, _≤_, _<_}
 use native.Mathlib.Omega.{arith}
 use lib.ListN.{length}
 use Rattle.std.proofs.shelf.Tests.{cases-lt}
-use Rattle.board.specs.Side.{on, less, shifted, checkers, Complete}
+use Rattle.board.specs.Side.{on, less, checkers}
 use Rattle.board.specs.Position.{Position, swapped}
-use Rattle.board.specs.Single.{Legal, moved}
+use Rattle.board.specs.Single.{moved}
 use Rattle.turns.specs.Runs.{Move, Run, played}
-use Rattle.turns.specs.Turns.{Allowed, Playable}
+use Rattle.turns.specs.Turns.{Allowed}
 use Rattle.turns.specs.Roll.{Roll, rolled}
 use Rattle.listing.proofs.Some.{has-first}
 use Rattle.endings.specs.Ending.{Home, Ending}

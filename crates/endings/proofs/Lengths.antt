@@ -1,13 +1,14 @@
 -- What lengths are.
-use mathlib.Core.Path.{_≡_, refl, sym, _∙_, ap, subst}
-use mathlib.Core.Logic.{_⊎_, inl, inr}
-use mathlib.Core.Bool.{true, false}
-use mathlib.Core.List.{List, [], _∷_, map}
-use Prim.Native.Nat.{ℕ, zero, suc, _+_, _-_, _*_, _^_, _≤_, _<_, max}
+use mathlib.Core.Path.{_≡_, _∙_, ap}
+use mathlib.Core.Logic.{inl, inr}
+use mathlib.Core.Bool.{false}
+use mathlib.Core.List.{List, map}
+use Prim.Native.Nat.{ℕ, zero, suc, _≤_, _<_}
 use native.Mathlib.Omega.{arith}
 use Rattle.std.proofs.shelf.Tests.{cases-bool, eqb-false}
-use Rattle.board.specs.Side.{on, less, shifted, checkers, Complete}
+use Rattle.board.specs.Side.{checkers}
 use Rattle.board.specs.Position.{Position, swapped}
+use Rattle.turns.specs.Roll.{Roll}
 use Rattle.turns.specs.Runs.{Move, played}
 use Rattle.turns.specs.Turns.{Allowed}
 use Rattle.listing.specs.Listing.{In, Listing}
@@ -16,11 +17,12 @@ use Rattle.listing.specs.Laws.{Sound}
 use Rattle.listing.proofs.Listed.{listed-is}
 use Rattle.listing.proofs.Some.{some-allowed}
 use Rattle.endings.specs.Ending.{Ending}
-use Rattle.endings.specs.Pips.{pips, bothPips}
+use Rattle.endings.specs.Pips.{bothPips}
 use Rattle.endings.specs.Rolls.{TwoDice, rolls}
 use Rattle.endings.specs.Length.{more, lasts, lengthOf, MostAfter}
 use Rattle.endings.proofs.Lists.{map-same, mapped-bound, greatest-le, greatest-reached}
-use Rattle.endings.proofs.Rolls.{rolls-fine, first-roll}
+use Rattle.endings.proofs.Rolls.{rolls-fine, first-roll, every-roll}
+use Rattle.endings.proofs.EitherWay.{allowed-turned}
 use Rattle.endings.proofs.Homes.{any-die, moved-pips}
 use Rattle.endings.proofs.Leads.{turn-leads}
 
@@ -82,16 +84,19 @@ most-after p e = (greatest (map (longestOf lengthOf p) rolls), record { bound = 
     list : (r : TwoDice) → Listing p (r .0) (r .1) (listed p (r .0) (r .1))
     list r = listed-is p (r .0) (r .1) (sound p e)
 
-    bound : (r : TwoDice) (t : List Move) → In r rolls → Allowed p (r .0) (r .1) t → more lengthOf p t ≤ greatest (map (longestOf lengthOf p) rolls)
-    bound r t i a = omega (arith, mapped-bound (more lengthOf p) t (listed p (r .0) (r .1)) (list r .every t a), mapped-bound (longestOf lengthOf p) r rolls i)
+    within : (r : TwoDice) (t : List Move) → In r rolls → Allowed p (r .0) (r .1) t → more lengthOf p t ≤ greatest (map (longestOf lengthOf p) rolls)
+    within r t i a = omega (arith, mapped-bound (more lengthOf p) t (listed p (r .0) (r .1)) (list r .every t a), mapped-bound (longestOf lengthOf p) r rolls i)
 
-    reached : (r : TwoDice) × (t : List Move) × In r rolls × Allowed p (r .0) (r .1) t × (more lengthOf p t ≡ greatest (map (longestOf lengthOf p) rolls))
+    bound : (x y : ℕ) (t : List Move) → Roll x y → Allowed p x y t → more lengthOf p t ≤ greatest (map (longestOf lengthOf p) rolls)
+    bound x y t d a = elim (every-roll x y d) [ inl i ↦ within (x, y) t i a | inr i ↦ within (y, x) t i (allowed-turned p x y t a) ]
+
+    reached : (x y : ℕ) × (t : List Move) × Roll x y × Allowed p x y t × (more lengthOf p t ≡ greatest (map (longestOf lengthOf p) rolls))
     reached =
         let r = greatest-reached (longestOf lengthOf p) (1, 1) rolls first-roll in
         let d = rolls-fine (r .0) (r .1) in
         let u = some-allowed p (r .0 .0) (r .0 .1) (sound p e) (d .0 .1) (d .1 .1) in
         let t = greatest-reached (more lengthOf p) (u .0) (listed p (r .0 .0) (r .0 .1)) (list (r .0) .every (u .0) (u .1)) in
-        (r .0, t .0, r .1, list (r .0) .only (t .0) (t .1), t .2 ∙ r .2)
+        (r .0 .0, r .0 .1, t .0, d, list (r .0) .only (t .0) (t .1), t .2 ∙ r .2)
 
 lasts-le : (n : ℕ) (p : Position) → lasts n p ≤ n
 unfolding lasts

@@ -1,5 +1,6 @@
 pub mod Lists
 pub mod Rolls
+pub mod EitherWay
 pub mod Shifts
 pub mod Homes
 pub mod Leads

@@ -1,14 +1,14 @@
 -- Greatest values and sums over lists.
-use mathlib.Core.Path.{_≡_, refl, sym, _∙_, ap, subst}
-use mathlib.Core.Logic.{_⊎_, inl, inr}
-use mathlib.Core.Bool.{Bool, true, _&&_}
+use mathlib.Core.Path.{_≡_, refl, sym}
+use mathlib.Core.Logic.{inl, inr}
+use mathlib.Core.Bool.{Bool, true, false, _&&_, _||_}
 use mathlib.Core.List.{List, [], _∷_, map}
-use Prim.Native.Nat.{ℕ, zero, suc, _+_, _-_, _*_, _^_, _≤_, _<_, max}
+use Prim.Native.Nat.{ℕ, _*_, _≤_}
 use native.Mathlib.Nat.{mul-le-mul-left}
 use native.Mathlib.Omega.{arith}
-use Rattle.std.specs.shelf.Lists.{sum, sumBy, countBy}
+use Rattle.std.specs.shelf.Lists.{sumBy}
 use Rattle.std.proofs.shelf.Sums.{sumBy-cons}
-use Rattle.std.proofs.shelf.Tests.{and-parts}
+use Rattle.std.proofs.shelf.Tests.{and-parts, or-cases, false≢true}
 use Rattle.listing.specs.Listing.{In}
 use Rattle.listing.specs.Order.{greatest}
 use Rattle.listing.proofs.In.{in-map, map-in}
@@ -59,3 +59,12 @@ pub in-every : {X : Type 0} (p : X → Bool) (x : X) (xs : List X) → every p x
 in-every p x [] e i = absurd i
 in-every p x (y ∷ ys) e (inl z) = rw z (and-parts (p y) (every p ys) e .0)
 in-every p x (y ∷ ys) e (inr i) = in-every p x ys (and-parts (p y) (every p ys) e .1) i
+
+abbrev pub any : {X : Type 0} → (X → Bool) → List X → Bool
+any p [] = false
+any p (x ∷ xs) = p x || any p xs
+
+pub any-in : {X : Type 0} (p : X → Bool) (xs : List X) → any p xs ≡ true → (x : X) × In x xs × (p x ≡ true)
+any-in p [] e = absurd (false≢true e)
+any-in p (x ∷ xs) e =
+    elim (or-cases (p x) (any p xs) e) [ inl f ↦ (x, inl refl, f) | inr f ↦ (let r = any-in p xs f in (r .0, inr (r .1), r .2)) ]

@@ -1,20 +1,23 @@
 -- Places of sides.
-use mathlib.Core.Path.{_≡_, refl, sym, _∙_, ap, subst}
-use mathlib.Core.Logic.{_⊎_, inl, inr}
-use mathlib.Core.Bool.{Bool, true, false, cond}
+use mathlib.Core.Path.{_≡_, refl, _∙_, ap}
+use mathlib.Core.Logic.{inl, inr}
+use mathlib.Core.Bool.{true, cond}
 use mathlib.Core.List.{List, [], _∷_}
-use Prim.Native.Nat.{ℕ, zero, suc, _+_, _-_, _≤_, _<_}
+use Prim.Native.Nat.{ℕ, zero, suc, _-_, _≤_, _<_}
 use native.Mathlib.Omega.{arith}
+use lib.Dec.{leb}
 use lib.ListN.{length, getD}
 use Rattle.std.specs.shelf.Lists.{sum, countBy}
 use Rattle.std.proofs.shelf.Lists.{getD-set-same, getD-set-other}
 use Rattle.std.proofs.shelf.Sums.{sumBy-cons, countBy-le-length}
+use Rattle.std.proofs.shelf.Tests.{leb-true}
 use Rattle.board.specs.Side.{on, less, shifted}
 use Rattle.listing.specs.Listing.{In}
-use Rattle.endings.specs.Place.{before, sides, place, placesOf, counts}
+use Rattle.endings.specs.Place.{before, upto, sides, place, placesOf, counts}
+use Rattle.endings.proofs.Lists.{every, in-every}
 use Rattle.endings.proofs.Counting.{counted, passed, count-less}
 use Rattle.endings.proofs.Before.{not-self, in-turn, later-not, either, first-less}
-use Rattle.endings.proofs.Sorted.{Sorted, sides-all, sides-sorted}
+use Rattle.endings.proofs.Sorted.{Sorted, upto-in, sides-all, sides-sorted}
 
 -- places keep the order
 pub place-less : (n : ℕ) (a b : List ℕ) → sum (counts a) ≤ n → before (counts a) (counts b) ≡ true → place n a < place n b
@@ -72,3 +75,10 @@ place-counts n a b i j e =
 pub sizes : (placesOf 1 ≡ 7) × (placesOf 2 ≡ 28) × (placesOf 3 ≡ 84) × (placesOf 4 ≡ 210) × (placesOf 5 ≡ 462) × (placesOf 6 ≡ 924)
 unfolding placesOf sides
 sizes = (refl, refl, refl, refl, refl, refl)
+
+small : every (λ n. leb (placesOf n) 924) (upto (λ n. n ∷ []) 6) ≡ true
+unfolding placesOf sides
+small = refl
+
+pub places-few : (n : ℕ) → n ≤ 6 → placesOf n ≤ 924
+places-few n l = leb-true (placesOf n) 924 (in-every (λ n. leb (placesOf n) 924) n (upto (λ n. n ∷ []) 6) small (upto-in n (λ n. n ∷ []) 6 n l (inl refl)))

@@ -1,13 +1,13 @@
 -- From the length on the chance is one fraction.
-use mathlib.Core.Path.{_≡_, refl, sym, _∙_, ap, subst}
-use mathlib.Core.Logic.{_⊎_, inl, inr}
-use mathlib.Core.Bool.{true, false}
-use mathlib.Core.List.{List, [], _∷_, map}
-use Prim.Native.Nat.{ℕ, zero, suc, _+_, _-_, _*_, _^_, _≤_, _<_, max}
+use mathlib.Core.Path.{_≡_, sym, _∙_, ap}
+use mathlib.Core.Logic.{inl, inr}
+use mathlib.Core.Bool.{false}
+use mathlib.Core.List.{List}
+use Prim.Native.Nat.{ℕ, zero, suc, _+_, _-_, _*_, _^_, _≤_, _<_}
 use native.Mathlib.Nat.{pow-suc}
 use native.Mathlib.Omega.{arith}
 use Rattle.std.proofs.shelf.Tests.{cases-bool, eqb-false}
-use Rattle.board.specs.Side.{on, less, shifted, checkers, Complete}
+use Rattle.board.specs.Side.{checkers}
 use Rattle.board.specs.Position.{Position, swapped}
 use Rattle.turns.specs.Runs.{Move, played}
 use Rattle.listing.specs.Listing.{In}

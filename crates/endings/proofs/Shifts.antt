@@ -1,13 +1,13 @@
 -- What one checker's shift does to a home side.
-use mathlib.Core.Path.{_≡_, refl, sym, _∙_, ap, subst}
-use mathlib.Core.Logic.{_⊎_, inl, inr}
-use mathlib.Core.List.{List, [], _∷_, _++_, map}
-use Prim.Native.Nat.{ℕ, zero, suc, _+_, _-_, _*_, _^_, _≤_, _<_, max}
+use mathlib.Core.Path.{_≡_, _∙_}
+use mathlib.Core.Logic.{inl, inr}
+use mathlib.Core.List.{List, [], _∷_}
+use Prim.Native.Nat.{ℕ, zero, suc, _+_, _-_, _*_, _≤_, _<_}
 use native.Mathlib.Omega.{arith}
 use lib.ListN.{length, getD, set, length-set}
 use Rattle.std.proofs.shelf.Lists.{getD-set-other}
 use Rattle.std.proofs.shelf.Tests.{cases-lt}
-use Rattle.board.specs.Side.{on, less, shifted, checkers, Complete}
+use Rattle.board.specs.Side.{on, less, shifted}
 use Rattle.board.proofs.Sides.{shifted-complete}
 use Rattle.endings.specs.Ending.{Home}
 use Rattle.endings.specs.Pips.{pipsFrom, pips}

@@ -1,20 +1,20 @@
 -- The sides with at most n checkers: which there are, and that they stand in order.
-use mathlib.Core.Path.{_≡_, refl, sym, _∙_, ap, subst}
-use mathlib.Core.Logic.{_⊎_, inl, inr}
+use mathlib.Core.Path.{_≡_, refl, sym, ap, subst}
+use mathlib.Core.Logic.{inl, inr}
 use mathlib.Core.Bool.{true}
 use mathlib.Core.List.{List, [], _∷_, _++_, map}
-use Prim.Native.Nat.{ℕ, zero, suc, _+_, _-_, _≤_, _<_}
+use Prim.Native.Nat.{ℕ, zero, suc, _-_, _≤_, _<_}
 use native.Mathlib.Omega.{arith}
 use lib.Dec.{eqb, ltb}
-use lib.ListN.{length, getD}
-use Rattle.std.specs.shelf.Lists.{sum, countBy}
+use lib.ListN.{length}
+use Rattle.std.specs.shelf.Lists.{sum}
 use Rattle.std.proofs.shelf.Sums.{sumBy-cons}
 use Rattle.std.proofs.shelf.Tests.{cases-lt, eq-eqb, lt-ltb, or-left, or-right, and-from}
 use Rattle.listing.specs.Listing.{In}
 use Rattle.listing.proofs.In.{in-cases, in-left, in-right, in-map, map-in}
 use Rattle.endings.specs.Place.{before, upto, sides}
 
-upto-in : {X : Type 0} (x : X) (f : ℕ → List X) (n k : ℕ) → k ≤ n → In x (f k) → In x (upto f n)
+pub upto-in : {X : Type 0} (x : X) (f : ℕ → List X) (n k : ℕ) → k ≤ n → In x (f k) → In x (upto f n)
 upto-in x f zero k l i = let e : k ≡ 0 = omega arith in subst (λ k. In x (f k)) e i
 upto-in x f (suc n) k l i =
     elim (cases-lt k (suc n)) [

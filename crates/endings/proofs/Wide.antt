@@ -7,11 +7,11 @@ use native.Mathlib.Omega.{arith}
 use lib.ListN.{length, getD, drop, replicate, length-append}
 use Rattle.std.specs.shelf.Lists.{sum}
 use Rattle.std.proofs.shelf.Lists.{getD-append-left, getD-append-add, getD-replicate, ext-getD}
-use Rattle.std.proofs.shelf.Sums.{sumBy-cons, sumBy-append, sumBy-drop-more}
+use Rattle.std.proofs.shelf.Sums.{sumBy-append, sumBy-drop-more}
 use Rattle.std.proofs.shelf.Tests.{cases-lt, eqb-true, eq-eqb}
 use Rattle.board.specs.Side.{on, checkers, Complete}
 use Rattle.listing.proofs.Test.{clear-from, clear-true}
-use Rattle.endings.specs.Ending.{Home, left, HomeFor}
+use Rattle.endings.specs.Ending.{Home}
 use Rattle.endings.specs.Place.{countsFrom, counts}
 
 -- no checkers above point 6

@@ -1,5 +1,6 @@
 -- What holds of exact chances and lengths.
 use mathlib.Core.Path.{_≡_}
+use mathlib.Core.Logic.{_⊎_}
 use mathlib.Core.List.{List}
 use Prim.Native.Nat.{ℕ, suc, _*_, _^_, _≤_, _<_}
 use lib.ListN.{length}
@@ -10,6 +11,7 @@ use Rattle.turns.specs.Roll.{Roll}
 use Rattle.turns.specs.Runs.{Move, played}
 use Rattle.turns.specs.Turns.{Allowed}
 use Rattle.listing.specs.Order.{listed}
+use Rattle.listing.specs.Listing.{In}
 use Rattle.listing.specs.Laws.{Sound}
 use Rattle.endings.specs.Ending.{Ending, EndingFor}
 use Rattle.endings.specs.Pips.{bothPips}
@@ -21,6 +23,9 @@ use Rattle.endings.specs.Exact.{exact}
 pub record Laws : Type 0 where
   -- the rolls are 36 in all
   pub thirty-six : sumBy weight rolls ≡ 36
+  -- any two dice are one of them in one order, and either order allows the same turns
+  pub every-roll : (x y : ℕ) → Roll x y → In (x, y) rolls ⊎ In (y, x) rolls
+  pub either-way : (p : Position) (x y : ℕ) → Sound p → listed p x y ≡ listed p y x
   -- the best of a roll is the greatest after an allowed turn, and one reaches it
   pub bests : (whole : ℕ) (others : Position → ℕ) (p : Position) (x y : ℕ) → Sound p → Roll x y → Best whole others p (x, y) (best whole others p (x, y))
   -- a chance is at most 1
@@ -29,6 +34,8 @@ pub record Laws : Type 0 where
   pub moves : (p : Position) (x y : ℕ) (t : List Move) → Ending p → Roll x y → Allowed p x y t → 0 < length t
   -- a turn leads to an empty side, or to an ending of the other player with fewer pips
   pub leads : (p : Position) (x y : ℕ) (t : List Move) → Ending p → Roll x y → Allowed p x y t → (on (played p t .own) 0 ≡ checkers → ⊥) → Ending (swapped (played p t)) × (bothPips (swapped (played p t)) < bothPips p)
+  -- which has at most n checkers on each side where the first had
+  pub stays : (n : ℕ) (p : Position) (x y : ℕ) (t : List Move) → EndingFor n p → Roll x y → Allowed p x y t → (on (played p t .own) 0 ≡ checkers → ⊥) → EndingFor n (swapped (played p t))
   -- neither the allowed turns nor where they lead the own side rest on the other side
   pub alike : (p q : Position) (x y : ℕ) → Ending p → Ending q → p .own ≡ q .own → (listed p x y ≡ listed q x y) × ((t : List Move) → played p t .own ≡ played q t .own)
   -- the length is 1 plus the most rolls to come after an allowed turn of any roll

@@ -2,14 +2,14 @@
 use mathlib.Core.Path.{_≡_}
 use mathlib.Core.Bool.{cond}
 use mathlib.Core.List.{List, map}
-use Prim.Native.Nat.{ℕ, zero, suc, _+_, _≤_}
+use Prim.Native.Nat.{ℕ, zero, suc, _≤_}
 use Rattle.board.specs.Position.{Position, swapped}
+use Rattle.turns.specs.Roll.{Roll}
 use Rattle.turns.specs.Runs.{Move, played}
 use Rattle.turns.specs.Turns.{Allowed}
 use Rattle.listing.specs.Order.{off, greatest, listed}
-use Rattle.listing.specs.Listing.{In}
 use Rattle.endings.specs.Pips.{bothPips}
-use Rattle.endings.specs.Rolls.{TwoDice, rolls}
+use Rattle.endings.specs.Rolls.{rolls}
 
 -- the rolls to come after a turn: none with the last checker off, else those of the other, then to roll
 abbrev pub more : (Position → ℕ) → Position → List Move → ℕ
@@ -29,5 +29,5 @@ lengthOf p = lasts (bothPips p) p
 
 -- m is the greatest number of rolls to come after an allowed turn of any roll: none leaves more, and one leaves it
 pub record MostAfter (others : Position → ℕ) (p : Position) (m : ℕ) : Type 0 where
-  pub bound : (r : TwoDice) (t : List Move) → In r rolls → Allowed p (r .0) (r .1) t → more others p t ≤ m
-  pub reached : (r : TwoDice) × (t : List Move) × In r rolls × Allowed p (r .0) (r .1) t × (more others p t ≡ m)
+  pub bound : (x y : ℕ) (t : List Move) → Roll x y → Allowed p x y t → more others p t ≤ m
+  pub reached : (x y : ℕ) × (t : List Move) × Roll x y × Allowed p x y t × (more others p t ≡ m)

@@ -1,11 +1,10 @@
 -- The two ways between sides and places undo each other.
 use mathlib.Core.Path.{_≡_, refl, sym, _∙_, ap}
 use mathlib.Core.List.{List}
-use Prim.Native.Nat.{ℕ, _<_}
+use Prim.Native.Nat.{ℕ}
 use native.Mathlib.Omega.{arith}
 use Rattle.std.specs.declared.option.Option.{Option}
 use Rattle.std.specs.declared.option.Option.the-variants.{Some, None}
-use Rattle.endings.specs.Place.{place, placesOf}
 use Rattle.endings.proofs.HomePlaces.{below, apart}
 use Rattle.places.specs.Asked.{CountOf, PlaceOf, SideAt}
 use Rattle.places.specs.Inverse.{Inverse}

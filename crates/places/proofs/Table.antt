@@ -1,16 +1,17 @@
 -- The table of ways.
 use mathlib.Core.Path.{_≡_, refl, sym, _∙_, ap}
-use mathlib.Core.Logic.{_⊎_, inl, inr}
+use mathlib.Core.Logic.{inl}
 use mathlib.Core.Bool.{Bool, true, _&&_}
 use mathlib.Core.List.{List, [], _∷_}
-use Prim.Native.Nat.{ℕ, zero, suc, _+_, _-_, _*_, _≤_, _<_}
+use Prim.Native.Nat.{ℕ, zero, suc, _+_, _-_, _≤_}
 use native.Mathlib.Omega.{arith}
 use lib.Dec.{eqb, leb}
 use lib.ListN.{getD, length-map}
 use Rattle.std.proofs.shelf.Tests.{and-parts, eqb-true, leb-true}
 use Rattle.listing.specs.Listing.{In}
-use Rattle.endings.specs.Place.{sides, placesOf}
+use Rattle.endings.specs.Place.{upto, sides, placesOf}
 use Rattle.endings.proofs.Lists.{every, in-every}
+use Rattle.endings.proofs.Sorted.{upto-in}
 use Rattle.places.specs.Ways.{ways}
 use Rattle.places.proofs.ByWays.{gone, gone-is, ways-more}
 
@@ -29,17 +30,10 @@ abbrev pub entry : ℕ → ℕ → ℕ
 entry k n = getD (getD table k []) n 0
 
 abbrev nums : List ℕ
-nums = 0 ∷ 1 ∷ 2 ∷ 3 ∷ 4 ∷ 5 ∷ 6 ∷ []
+nums = upto (λ k. k ∷ []) 6
 
 in-nums : (k : ℕ) → k ≤ 6 → In k nums
-in-nums zero l = inl refl
-in-nums (suc zero) l = inr (inl refl)
-in-nums (suc (suc zero)) l = inr (inr (inl refl))
-in-nums (suc (suc (suc zero))) l = inr (inr (inr (inl refl)))
-in-nums (suc (suc (suc (suc zero)))) l = inr (inr (inr (inr (inl refl))))
-in-nums (suc (suc (suc (suc (suc zero))))) l = inr (inr (inr (inr (inr (inl refl)))))
-in-nums (suc (suc (suc (suc (suc (suc zero)))))) l = inr (inr (inr (inr (inr (inr (inl refl))))))
-in-nums (suc (suc (suc (suc (suc (suc (suc k))))))) l = absurd (omega arith)
+in-nums k l = upto-in k (λ k. k ∷ []) 6 k l (inl refl)
 
 abbrev fits-table : ℕ → ℕ → Bool
 fits-table k n = eqb (entry k n) (ways k n) && leb (entry k n) 924

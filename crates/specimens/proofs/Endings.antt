@@ -2,7 +2,7 @@
 use mathlib.Core.Path.{_≡_, refl, sym, _∙_, ap}
 use mathlib.Core.Logic.{inl, inr}
 use mathlib.Core.List.{List, [], _∷_}
-use Prim.Native.Nat.{ℕ, _-_, _*_, _^_, _≤_, _<_}
+use Prim.Native.Nat.{ℕ, _-_, _*_, _^_, _<_}
 use native.Mathlib.Omega.{arith}
 use lib.Dec.{lit≤}
 use lib.ListN.{length}
@@ -10,11 +10,10 @@ use Rattle.std.specs.shelf.Lists.{sum}
 use Rattle.board.specs.Side.{on, checkers}
 use Rattle.board.specs.Position.{Position}
 use Rattle.turns.specs.Roll.{Roll, rolled}
-use Rattle.turns.specs.Runs.{Move}
 use Rattle.listing.specs.Order.{down, turns}
 use Rattle.listing.specs.Listing.{In}
 use Rattle.endings.specs.Ending.{Ending}
-use Rattle.endings.specs.Rolls.{TwoDice, rolls}
+use Rattle.endings.specs.Rolls.{rolls}
 use Rattle.endings.specs.Chance.{best, chance}
 use Rattle.endings.specs.Length.{lengthOf}
 use Rattle.endings.specs.Exact.{exact, exactLoss}

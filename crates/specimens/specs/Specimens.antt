@@ -1,7 +1,7 @@
 -- The list of specimens.
 use mathlib.Core.Path.{_≡_}
 use mathlib.Core.List.{List, [], _∷_}
-use Prim.Native.Nat.{ℕ, _-_, _*_, _^_}
+use Prim.Native.Nat.{_-_, _*_, _^_}
 use Rattle.refusals.specs.declared.reason.Reason.the-variants.{TooFewDice, SmallerDie}
 use Rattle.refusals.specs.Fields.{plain}
 use Rattle.board.specs.Side.{withOff}

@@ -1,7 +1,6 @@
 use native.Mathlib.Omega.{arith}
 use mathlib.Core.Path.{_≡_}
-use Prim.Native.Nat.{_+_, _-_, _≤_}
-use Rattle.places.specs.Ways.{ways}
+use Prim.Native.Nat.{_+_, _-_}
 use Rattle.places.proofs.Table.{fewer, ways-step, ways-none}
 use Rattle.places.proofs.side.count_at.Needs as need
 

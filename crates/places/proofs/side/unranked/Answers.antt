@@ -1,7 +1,5 @@
 use native.Mathlib.Omega.{arith}
-use mathlib.Core.Path.{_≡_}
-use Prim.Native.Nat.{_+_, _-_, _≤_}
-use Rattle.places.specs.Ways.{ways}
+use Prim.Native.Nat.{_-_}
 use Rattle.places.proofs.Table.{fewer, all-ways}
 use Rattle.places.proofs.Finding.{finding-none, finding-more, found}
 use Rattle.places.proofs.side.unranked.Needs as need
