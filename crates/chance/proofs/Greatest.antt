@@ -1,8 +1,7 @@
 -- Taking the greater of fractions one after another gives the greatest of them.
-use Prim.Native.Nat.{ℕ, _*_, _≤_}
+use Prim.Native.Nat.{ℕ, _*_}
 use mathlib.Core.List.{List, [], _∷_}
-use mathlib.Core.Logic.{_⊎_, inl, inr}
-use mathlib.Core.Path.{_≡_}
+use mathlib.Core.Logic.{inl, inr}
 use lib.Dec.{leb}
 use native.Mathlib.Nat.{le-refl, mul-le-mul-right, le-of-mul-le-mul-right}
 use native.Mathlib.Omega.{arith}

@@ -1,6 +1,6 @@
 -- Whole numbers over a power of 36, and what holds them.
 use Prim.Native.Nat.{ℕ, suc, _+_, _*_, _^_, _≤_, max}
-use mathlib.Core.Logic.{_⊎_, inl, inr}
+use mathlib.Core.Logic.{inl, inr}
 use mathlib.Core.Path.{_≡_, ap}
 use lib.Dec.{leb}
 use lib.Pow.{pow-add}

@@ -1,6 +1,5 @@
 -- What ranges hold, over any scale: what the kinds rest on.
-use Prim.Native.Nat.{ℕ, _+_, _-_, _*_, _/_, _≤_, max}
-use mathlib.Core.Path.{_≡_, ap}
+use Prim.Native.Nat.{ℕ, _+_, _-_, _*_, _≤_, max}
 use lib.Dec.{leb}
 use borrow.Author.Tests.{leb-true, leb-false}
 use native.Mathlib.Omega.{arith}

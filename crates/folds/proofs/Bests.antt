@@ -1,11 +1,12 @@
 -- What the best of several values holds, and its age, from the rules of a kind.
-use Prim.Native.Nat.{ℕ, _+_, _<_, max}
+use Prim.Native.Nat.{ℕ, _+_, _≤_, _<_}
 use mathlib.Core.List.{List, [], _∷_}
-use mathlib.Core.Path.{_≡_, refl, _∙_, ap}
+use mathlib.Core.Path.{_≡_, refl, sym, _∙_, ap}
 use native.Mathlib.Numerals.{add-one}
 use lib.ListN.{length, getD, drop}
 use lib.Seq.{drop-cons}
 use Rattle.std.specs.shelf.Lists.{folded}
+use Rattle.std.proofs.shelf.Lists.{drop-all}
 use Rattle.chance.specs.Fraction.{Fraction, greater}
 use Rattle.chance.specs.Held.{Held}
 use Rattle.chance.specs.declared.kind.Chance.{Ghosts}
@@ -29,3 +30,11 @@ module _ {V S R A B C : Type 0} (k : Ghosts V S R A B C) where
   pub best-age : (x : V) (ys : List V) → k .age (best k x ys) ≡ oldest-from k (k .age x) ys
   best-age x [] = refl
   best-age x (y ∷ ys) = best-age (k .better x y) ys ∙ ap (λ a. oldest-from k a ys) (k .rules .better-age x y)
+
+  -- the loop's step: one value more
+  pub best-next : (w t t′ y : V) (ys : List V) (i : ℕ) → i < length ys → y ≡ getD ys i y → t′ ≡ k .better t y → best k t (drop i ys) ≡ w → best k t′ (drop (i + 1) ys) ≡ w
+  best-next w t t′ y ys i h e z inv = ap (λ x. best k x (drop (i + 1) ys)) z ∙ sym (folded-next (k .better) t ys i y h e) ∙ inv
+
+  -- and its end: nothing is left
+  pub best-done : (w t : V) (ys : List V) (i : ℕ) → length ys ≤ i → best k t (drop i ys) ≡ w → t ≡ w
+  best-done w t ys i h inv = sym (ap (best k t) (drop-all _ _ h)) ∙ inv

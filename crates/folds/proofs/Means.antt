@@ -1,10 +1,10 @@
 -- What a sum of weighted values comes to, from the rules of a kind.
-use Prim.Native.Nat.{ℕ, _+_, _≤_, _<_, max}
+use Prim.Native.Nat.{ℕ, _+_, _<_}
 use mathlib.Core.List.{List, [], _∷_}
 use mathlib.Core.Path.{_≡_, refl, sym, _∙_, ap, subst}
 use native.Mathlib.Nat.{zero-add, add-zero}
 use native.Mathlib.Omega.{arith}
-use Rattle.std.specs.shelf.Lists.{folded, sumBy}
+use Rattle.std.specs.shelf.Lists.{sumBy}
 use Rattle.std.proofs.shelf.Sums.{sumBy-cons}
 use Rattle.chance.specs.Fraction.{Fraction, nothing, plus, mean}
 use Rattle.chance.specs.Held.{Held}

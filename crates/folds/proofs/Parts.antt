@@ -1,11 +1,12 @@
 -- Adding parts one after another: what is known on the way, and what is answered at the end.
 use Prim.Native.Nat.{ℕ, _+_, _≤_, _<_}
 use mathlib.Core.List.{List, [], _∷_}
-use mathlib.Core.Path.{_≡_, refl, sym, _∙_, ap, subst}
+use mathlib.Core.Path.{_≡_, sym, _∙_, ap, subst}
 use native.Mathlib.Numerals.{add-one}
 use native.Mathlib.Omega.{arith}
 use lib.ListN.{length, getD, drop}
 use lib.Seq.{drop-cons}
+use Rattle.std.proofs.shelf.Lists.{drop-all}
 use Rattle.std.specs.declared.result.Result.{Result}
 use Rattle.std.specs.declared.result.Result.the-variants.{Ok, Err}
 use Rattle.refusals.specs.declared.refusal.Refusal.{Refusal}
@@ -60,7 +61,7 @@ module _ {V S R A B C : Type 0} (k : Ghosts V S R A B C) (ps : List (ℕ × V)) 
         age = mean-age k ps;
       }
 
-  pub closed-so : (s s′ : S) (r : Result V Refusal) → So-far k ps [] s → Closes (k .weight s) (k .oldest s) (k .reach) (k .closed s) (k .empty) s r s′ → Mean k ps r
+  closed-so : (s s′ : S) (r : Result V Refusal) → So-far k ps [] s → Closes (k .weight s) (k .oldest s) (k .reach) (k .closed s) (k .empty) s r s′ → Mean k ps r
   closed-so s s′ r so c =
       let fit = so .back tt in
       let w : k .weight s ≡ _ = ap (k .weight) (so .same) ∙ total-weight k ps fit in
@@ -73,3 +74,6 @@ module _ {V S R A B C : Type 0} (k : Ghosts V S R A B C) (ps : List (ℕ × V)) 
         holds = mean-holds k ps;
         age = mean-age k ps;
       }
+
+  pub closed-at : (i : ℕ) (s s′ : S) (r : Result V Refusal) → length ps ≤ i → So-far k ps (drop i ps) s → Closes (k .weight s) (k .oldest s) (k .reach) (k .closed s) (k .empty) s r s′ → Mean k ps r
+  closed-at i s s′ r h so c = closed-so s s′ r (subst (λ rest. So-far k ps rest s) (drop-all _ _ h) so) c

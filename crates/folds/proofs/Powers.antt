@@ -1,11 +1,10 @@
 -- The best and the mean of values that hold whole numbers over a power of 36.
-use Prim.Native.Nat.{ℕ, suc, _+_, _*_, _^_, max}
+use Prim.Native.Nat.{ℕ, suc, _+_, _*_, max}
 use mathlib.Core.List.{List, [], _∷_, map}
-use mathlib.Core.Path.{_≡_, refl, subst}
 use native.Mathlib.Nat.{add-assoc}
 use native.Mathlib.Omega.{arith}
 use Rattle.std.specs.shelf.Lists.{folded}
-use Rattle.chance.specs.Fraction.{Fraction, Same, nothing, plus, greater, over36}
+use Rattle.chance.specs.Fraction.{Fraction, Same, nothing, plus, over36}
 use Rattle.chance.specs.Held.{Held}
 use Rattle.chance.specs.declared.kind.Chance.{Ghosts}
 use Rattle.chance.proofs.Powers.{greater-over, plus-over, mean-over}

@@ -1,10 +1,9 @@
-use mathlib.Core.Path.{_≡_, sym, ap, subst}
+use mathlib.Core.Path.{_≡_, ap}
 use Rattle.std.specs.declared.result.Result.the-variants.{Err}
-use Rattle.std.proofs.shelf.Lists.{drop-all}
 use Rattle.refusals.specs.declared.reason.Reason.the-variants.{WeightOutOfRange}
 use Rattle.refusals.specs.Fields.{plain}
 use Rattle.chance.proofs.Admitted.{refused-not, taken-fits}
-use Rattle.folds.proofs.Parts.{So-far, begun, next-at, refused-at, closed-so}
+use Rattle.folds.proofs.Parts.{begun, next-at, refused-at, closed-at}
 use Rattle.folds.proofs.mean_of.Needs as need
 
 pub loop-part-holds : need.loop-part-holds
@@ -22,8 +21,4 @@ loop-part-again g c =
     next-at (g .K·Chance) (c .args .parts .now) (c .loop-part .part-index) (c .part-item .result) (c .loop-part .sum) _ (c .loop-part-test .taken) (c .part-item .is) (c .loop-part .inv) (taken-fits (c .in-rest .ensures tt .answer)) (c .add .ensures .left)
 
 pub returns : need.returns
-returns g c =
-    let k = g .K·Chance in
-    let ps = c .args .parts .now in
-    let all = subst (λ rest. So-far k ps rest (c .loop-part .sum)) (drop-all _ _ (c .loop-part-test .left)) (c .loop-part .inv) in
-    closed-so k ps (c .loop-part .sum) _ _ all (c .close .ensures)
+returns g c = closed-at (g .K·Chance) (c .args .parts .now) (c .loop-part .part-index) (c .loop-part .sum) _ _ (c .loop-part-test .left) (c .loop-part .inv) (c .close .ensures)
