@@ -38,21 +38,21 @@ module _ (n : ℕ) (p : Position) (e : EndingFor n p) where
   pub length-best : (lengths : List ℕ) (r : TwoDice) → Roll (r .0) (r .1) → mostLength (placesOf n) lengths (place n (p .other)) (ledTo n p r) ≡ greatest (map (more (tabledLength n lengths) p) (listed p (r .0) (r .1)))
   length-best lengths r roll =
       ap greatest
-        (sym (map-twice _ _ (listed p (r .0) (r .1)))
-          ∙ map-same _ _ (listed p (r .0) (r .1)) (λ t i. length-linked n p (r .0) (r .1) t e roll (listed-is p (r .0) (r .1) (sound p (e .ending)) .only t i) lengths))
+      (sym (map-twice _ _ (listed p (r .0) (r .1)))
+      ∙ map-same _ _ (listed p (r .0) (r .1)) (λ t i. length-linked n p (r .0) (r .1) t e roll (listed-is p (r .0) (r .1) (sound p (e .ending)) .only t i) lengths))
 
   module _ {V S R A B C : Type 0} (k : Ghosts V S R A B C) (rows : List R) where
     pub best-linked : (r : TwoDice) → Roll (r .0) (r .1) → bestPlace k (placesOf n) rows (place n (p .other)) (ledTo n p r) ≡ bestValue k (tabled k n rows) p r
     best-linked r roll =
         ap (bestOf k)
-          (sym (map-twice _ _ (listed p (r .0) (r .1)))
-            ∙ map-same _ _ (listed p (r .0) (r .1)) (λ t i. after-linked n p (r .0) (r .1) t e roll (listed-is p (r .0) (r .1) (sound p (e .ending)) .only t i) k rows))
+        (sym (map-twice _ _ (listed p (r .0) (r .1)))
+        ∙ map-same _ _ (listed p (r .0) (r .1)) (λ t i. after-linked n p (r .0) (r .1) t e roll (listed-is p (r .0) (r .1) (sound p (e .ending)) .only t i) k rows))
 
     sum-by : (s : S) (rs : List TwoDice) → ((r : TwoDice) → In r rs → Roll (r .0) (r .1)) → sumOver k (placesOf n) rows (place n (p .other)) s rs (map (ledTo n (facing (p .own))) rs) ≡ folded (λ s r. k .added s (weight r) (bestValue k (tabled k n rows) p r)) s rs
     sum-by s [] fine = refl
     sum-by s (r ∷ rs) fine =
         let same : bestPlace k (placesOf n) rows (place n (p .other)) (ledTo n (facing (p .own)) r) ≡ bestValue k (tabled k n rows) p r =
-            ap (bestPlace k (placesOf n) rows (place n (p .other))) (led-alike n p r (e .ending)) ∙ best-linked r (fine r (inl refl))
+        ap (bestPlace k (placesOf n) rows (place n (p .other))) (led-alike n p r (e .ending)) ∙ best-linked r (fine r (inl refl))
         in
         ap (λ v. sumOver k (placesOf n) rows (place n (p .other)) (k .added s (weight r) v) rs (map (ledTo n (facing (p .own))) rs)) same ∙ sum-by (k .added s (weight r) (bestValue k (tabled k n rows) p r)) rs (λ q i. fine q (inr i))
 
@@ -65,8 +65,8 @@ length-entered : (n : ℕ) (p : Position) (lengths : List ℕ) → n ≤ 6 → E
 unfolding entryLength
 length-entered n p lengths six e below =
     let by : map (mostLength (placesOf n) lengths (place n (p .other))) (map (ledTo n (facing (p .own))) rolls) ≡ map (λ r. greatest (map (more (tabledLength n lengths) p) (listed p (r .0) (r .1)))) rolls =
-        sym (map-twice _ _ rolls)
-          ∙ map-same _ _ rolls (λ r i. ap (mostLength (placesOf n) lengths (place n (p .other))) (led-alike n p r (e .ending)) ∙ length-best n p e lengths r (rolls-fine r i))
+    sym (map-twice _ _ rolls)
+    ∙ map-same _ _ rolls (λ r i. ap (mostLength (placesOf n) lengths (place n (p .other))) (led-alike n p r (e .ending)) ∙ length-best n p e lengths r (rolls-fine r i))
     in
     omega (arith, ap greatest by, length-from (tabledLength n lengths) p (e .ending) below, length-short n p e)
 
@@ -80,13 +80,14 @@ module _ {V S R A B C : Type 0} (k : Ghosts V S R A B C) (n : ℕ) (p : Position
   value-entered : entryValue k (placesOf n) rows (place n (p .other)) (lengthOf p) (map (ledTo n (facing (p .own))) rolls) ≡ valueEntry k p
   unfolding entryValue
   value-entered =
-      elim (cases-lt (k .reach) (lengthOf p))
-        [ inl o ↦ (let z = lt-leb (lengthOf p) (k .reach) o in rw z (sym (past k p (e .ending) o)))
+      elim (cases-lt (k .reach) (lengthOf p)) [
+        | inl o ↦ (let z = lt-leb (lengthOf p) (k .reach) o in rw z (sym (past k p (e .ending) o)))
         | inr o ↦
             (let z = le-leb (lengthOf p) (k .reach) o in
             let sum = sum-linked n p e k rows ∙ sum-alike k (tabled k n rows) (valueEntry k) p (e .ending) below in
             let held = summed k (valueEntry k) p (e .ending) (others k p o) o in
-            rw (z, sum) (full-settled (sumValue k (valueEntry k) p) (valueEntry k p) (held .full) (held .young) (sym (step k p (e .ending) o)))) ]
+            rw (z, sum) (full-settled (sumValue k (valueEntry k) p) (valueEntry k p) (held .full) (held .young) (sym (step k p (e .ending) o))))
+      ]
 
 pub entry-of : {V S R A B C : Type 0} (k : Ghosts V S R A B C) (n : ℕ) (p : Position) (lengths : List ℕ) (rows : List R) (r : ℕ × V) → n ≤ 6 → EndingFor n p → Below k n p lengths rows → r ≡ (entryLength (placesOf n) lengths (place n (p .other)) (map (ledTo n (facing (p .own))) rolls), entryValue k (placesOf n) rows (place n (p .other)) (entryLength (placesOf n) lengths (place n (p .other)) (map (ledTo n (facing (p .own))) rolls)) (map (ledTo n (facing (p .own))) rolls)) → EntryOf k p r
 entry-of k n p lengths rows r six e below is =

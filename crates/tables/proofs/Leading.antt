@@ -20,12 +20,13 @@ all-kept b v w (t ∷ ts) r s =
     let u = r .0 in
     let later = all-kept b u w ts (r .2) s in
     let here = r .1 (later .0) in
-    let same : map (λ t. place (u .n) (played b t .own)) ts ≡ map (λ t. place (v .n) (played b t .own)) ts = ap (λ n. map (λ t. place n (played b t .own)) ts) (here .1) in
-    ( here .0
-    , later .1
-        ∙ ap (λ xs. xs ++ map (λ t. place (u .n) (played b t .own)) ts) (here .2)
-        ∙ append-assoc (vec-items (v .places)) (place (v .n) (played b t .own) ∷ []) (map (λ t. place (u .n) (played b t .own)) ts)
-        ∙ ap (λ xs. vec-items (v .places) ++ (place (v .n) (played b t .own) ∷ xs)) same )
+    let same : map (λ t. place (u .n) (played b t .own)) ts ≡ map (λ t. place (v .n) (played b t .own)) ts = ap (λ n. map (λ t. place n (played b t .own)) ts) (here .1) in (
+      here .0,
+      later .1
+          ∙ ap (λ xs. xs ++ map (λ t. place (u .n) (played b t .own)) ts) (here .2)
+          ∙ append-assoc (vec-items (v .places)) (place (v .n) (played b t .own) ∷ []) (map (λ t. place (u .n) (played b t .own)) ts)
+          ∙ ap (λ xs. vec-items (v .places) ++ (place (v .n) (played b t .own) ∷ xs)) same,
+    )
 
 -- one more of a list that is made element by element
 pub made-more : {X Y Z : Type 0} (f : X → Z) (g : Y → Z) (xs : List X) (x : X) (ys : List Y) (i : ℕ) (d : Y) → i < length ys → map f xs ≡ map g (take i ys) → f x ≡ g (getD ys i d) → map f (xs ++ (x ∷ [])) ≡ map g (take (i + 1) ys)

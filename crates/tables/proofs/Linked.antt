@@ -69,9 +69,9 @@ module _ (n : ℕ) (p : Position) (x y : ℕ) (t : List Move) (e : EndingFor n p
   pub after-linked : {V S R A B C : Type 0} (k : Ghosts V S R A B C) (rows : List R) → afterPlace k (placesOf n) rows (place n (p .other)) (place n (played p t .own)) ≡ afterValue k (tabled k n rows) p t
   after-linked k rows =
       elim (cases-bool (off (played p t)))
-        [ inl o ↦ (let z = at-off o in rw (z, o)) | inr o ↦ (let z = at-on o in rw (z, o, same-other)) ]
+      [ inl o ↦ (let z = at-off o in rw (z, o)) | inr o ↦ (let z = at-on o in rw (z, o, same-other)) ]
 
   pub length-linked : (lengths : List ℕ) → afterLength (placesOf n) lengths (place n (p .other)) (place n (played p t .own)) ≡ more (tabledLength n lengths) p t
   length-linked lengths =
       elim (cases-bool (off (played p t)))
-        [ inl o ↦ (let z = at-off o in rw (z, o)) | inr o ↦ (let z = at-on o in rw (z, o, same-other)) ]
+      [ inl o ↦ (let z = at-off o in rw (z, o)) | inr o ↦ (let z = at-on o in rw (z, o, same-other)) ]

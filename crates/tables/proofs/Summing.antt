@@ -43,18 +43,22 @@ module _ {V S R A B C : Type 0} (k : Ghosts V S R A B C) (size : ℕ) (rows : Li
 module _ {V S : Type 0} (w o reach : ℕ) (value lost : V) (empty before after : S) (r : Result V Refusal) (c : Closes w o reach value empty before r after) where
   pub closes-ok : (v : V) → r ≡ Ok v → v ≡ cond (leb 36 w && ltb o reach) value lost
   closes-ok v is =
-      elim (cases-lt w 36)
-        [ inl l ↦ (let e = c .short l .0 in let z : _≡_ {A = ℕ} 0 1 = cc in absurd (omega arith))
+      elim (cases-lt w 36) [
+        | inl l ↦ (let e = c .short l .0 in let z : _≡_ {A = ℕ} 0 1 = cc in absurd (omega arith))
         | inr l ↦
-            elim (cases-lt o reach)
-              [ inl m ↦ (let e = c .done l m .0 in let same : v ≡ value = cc in let p = le-leb 36 w l in let q = lt-ltb o reach m in rw (p, q) same)
-              | inr m ↦ (let e = c .old l m .0 in let z : _≡_ {A = ℕ} 0 1 = cc in absurd (omega arith)) ] ]
+            elim (cases-lt o reach) [
+              | inl m ↦ (let e = c .done l m .0 in let same : v ≡ value = cc in let p = le-leb 36 w l in let q = lt-ltb o reach m in rw (p, q) same)
+              | inr m ↦ (let e = c .old l m .0 in let z : _≡_ {A = ℕ} 0 1 = cc in absurd (omega arith))
+            ]
+      ]
 
   pub closes-err : (e : Refusal) → r ≡ Err e → lost ≡ cond (leb 36 w && ltb o reach) value lost
   closes-err e is =
-      elim (cases-lt w 36)
-        [ inl l ↦ (let p = lt-leb 36 w l in rw p)
+      elim (cases-lt w 36) [
+        | inl l ↦ (let p = lt-leb 36 w l in rw p)
         | inr l ↦
-            elim (cases-lt o reach)
-              [ inl m ↦ (let f = c .done l m .0 in let z : _≡_ {A = ℕ} 0 1 = cc in absurd (omega arith))
-              | inr m ↦ (let p = le-leb 36 w l in let q = le-ltb o reach m in rw (p, q)) ] ]
+            elim (cases-lt o reach) [
+              | inl m ↦ (let f = c .done l m .0 in let z : _≡_ {A = ℕ} 0 1 = cc in absurd (omega arith))
+              | inr m ↦ (let p = le-leb 36 w l in let q = le-ltb o reach m in rw (p, q))
+            ]
+      ]

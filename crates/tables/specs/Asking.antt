@@ -43,7 +43,7 @@ module _ {V S R A B C : Type 0} (k : Ghosts V S R A B C) (n : ℕ) (own other le
   -- why there is no answer, in checking order
   abbrev pub Unanswered : Refusal → Type 0
   Unanswered =
-    Refuse (Size n → ⊥) (plain TableSizeOutOfRange)
+      Refuse (Size n → ⊥) (plain TableSizeOutOfRange)
       (Refuse (Square n lengths rows → ⊥) (plain WrongPartSize)
-        (Refuse (AskedEnding n own other → ⊥) (plain NotAnEnding)
-          (Refuse (k .reach < lengthAsked) (plain PastReach) Accept)))
+      (Refuse (AskedEnding n own other → ⊥) (plain NotAnEnding)
+      (Refuse (k .reach < lengthAsked) (plain PastReach) Accept)))

@@ -29,7 +29,7 @@ module _ {V S R A B C : Type 0} (k : Ghosts V S R A B C) (n : ℕ) (p : Position
   -- why there is none, in checking order
   abbrev pub Unjudged : Refusal → Type 0
   Unjudged =
-    Refuse (Roll (r .0) (r .1) → ⊥) (plain DieOutOfRange)
+      Refuse (Roll (r .0) (r .1) → ⊥) (plain DieOutOfRange)
       (Refuse (Size n → ⊥) (plain TableSizeOutOfRange)
-        (Refuse (length rows ≡ placesOf n * placesOf n → ⊥) (plain WrongPartSize)
-          (Refuse (EndingFor n p → ⊥) (plain NotAnEnding) Accept)))
+      (Refuse (length rows ≡ placesOf n * placesOf n → ⊥) (plain WrongPartSize)
+      (Refuse (EndingFor n p → ⊥) (plain NotAnEnding) Accept)))

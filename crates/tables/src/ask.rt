@@ -50,7 +50,13 @@ fn ending_places(n: u8, own: &[u8; 25], other: &[u8; 25]) -> Option<(usize, usiz
 }
 
 // Lower end, upper end and age of the chance of the roller, whose counts on points 1 to 25 come first.
-pub fn ask<K: Chance>(n: u8, own: &[u8; 25], other: &[u8; 25], lengths: &[u8], rows: &[K::Row]) -> Result<(u64, u64, u64), Refusal>
+pub fn ask<K: Chance>(
+    n: u8,
+    own: &[u8; 25],
+    other: &[u8; 25],
+    lengths: &[u8],
+    rows: &[K::Row],
+) -> Result<(u64, u64, u64), Refusal>
     ensures { λ r. ⌜ Cases r (Answered K·Chance n (now (own .entry)) (now (other .entry)) (now (lengths .entry)) (now (rows .entry))) (Unanswered K·Chance n (now (own .entry)) (now (other .entry)) (now (lengths .entry)) (now (rows .entry))) ⌝ }
 {
     let Some(size) = count_of(n) else {

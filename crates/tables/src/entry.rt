@@ -39,7 +39,13 @@ fn mean_of_rolls<K: Chance>(size: usize, rows: &[K::Row], b: usize, turns: &Side
 }
 
 // Length and value of the entry of a roller with these turns against the other side's place b.
-pub fn entry<K: Chance>(size: usize, lengths: &[u8], rows: &[K::Row], b: usize, turns: &SideTurns) -> (u8, K)
+pub fn entry<K: Chance>(
+    size: usize,
+    lengths: &[u8],
+    rows: &[K::Row],
+    b: usize,
+    turns: &SideTurns,
+) -> (u8, K)
     ensures value { λ r. ⌜ r ≡ (entryLength size (now (lengths .entry)) b (placeLists (now (turns .entry))), entryValue K·Chance size (now (rows .entry)) b (entryLength size (now (lengths .entry)) b (placeLists (now (turns .entry)))) (placeLists (now (turns .entry)))) ⌝ }
     ensures sound { λ r. ⌜ SoundEntry K·Chance size b (placeLists (now (turns .entry))) (now (lengths .entry)) (now (rows .entry)) r ⌝ }
 {

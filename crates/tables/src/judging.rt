@@ -110,9 +110,28 @@ pub fn roll_best<K: Chance>(n: u8, b: &Board, roll: (u8, u8), rows: &[K::Row]) -
     };
     match visit_turns(b, roll, none) {
         Ok(all) => {
-            let Best { n: _, size: _, other: _, rows: _, some: _, best } = all;
+            let Best {
+                n: _,
+                size: _,
+                other: _,
+                rows: _,
+                some: _,
+                best,
+            } = all;
             Ok(best)
         }
-        Err((refusal, Best { n: _, size: _, other: _, rows: _, some: _, best: _ })) => Err(refusal),
+        Err(
+            (
+                refusal,
+                Best {
+                    n: _,
+                    size: _,
+                    other: _,
+                    rows: _,
+                    some: _,
+                    best: _,
+                },
+            ),
+        ) => Err(refusal),
     }
 }

@@ -9,5 +9,8 @@ pub fn loss_of<K: Chance>(best: K, after: K) -> (u64, u64)
 {
     let (best_lower, best_upper, _) = best.ends();
     let (after_lower, after_upper, _) = after.ends();
-    (best_lower.saturating_sub(after_upper), best_upper.saturating_sub(after_lower))
+    (
+        best_lower.saturating_sub(after_upper),
+        best_upper.saturating_sub(after_lower),
+    )
 }

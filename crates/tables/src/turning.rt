@@ -30,19 +30,35 @@ pub impl Visit for Led as LedVisit {
 
     // Once a place is missing, nothing more is collected.
     fn visit(self, _turn: &Turn, after: &Board) -> Led {
-        let Led { n, mut places, short } = self;
+        let Led {
+            n,
+            mut places,
+            short,
+        } = self;
         if short {
             return Led { n, places, short };
         }
         let Some(place) = place_of(n, &after.own) else {
-            return Led { n, places, short: true };
+            return Led {
+                n,
+                places,
+                short: true,
+            };
         };
         let Ok(small) = u16::try_from(place) else {
-            return Led { n, places, short: true };
+            return Led {
+                n,
+                places,
+                short: true,
+            };
         };
         match places.push(small) {
             Ok(()) => Led { n, places, short },
-            Err(_) => Led { n, places, short: true },
+            Err(_) => Led {
+                n,
+                places,
+                short: true,
+            },
         }
     }
 }
@@ -59,7 +75,11 @@ fn roll_places(heap: Global, n: u8, b: &Board, roll: (u8, u8)) -> Option<Vec<u16
     match visit_turns(b, roll, none) {
         Err(_) => None,
         Ok(all) => {
-            let Led { n: _, places, short } = all;
+            let Led {
+                n: _,
+                places,
+                short,
+            } = all;
             if short {
                 return None;
             }

@@ -9,8 +9,8 @@ use Rattle.tables.proofs.entry.mean_of_rolls.Needs as need
 pub loop-i-again : need.loop-i-again
 loop-i-again g c =
     rw (c .add .ensures .left, c .weight-of .ensures, c .roll-at .ensures, c .best-over-best .ensures, c .of-roll .ensures)
-      (sum-more (g .K·Chance) (c .args .size) (c .args .rows .now) (c .args .b) rolls (placeLists (c .args .turns .now)) (c .loop-i .i) (c .loop-i .sum) _
-        (omega (arith, rolls-long)) (omega (arith, lists-long (c .args .turns .now))) (c .loop-i .inv))
+    (sum-more (g .K·Chance) (c .args .size) (c .args .rows .now) (c .args .b) rolls (placeLists (c .args .turns .now)) (c .loop-i .i) (c .loop-i .sum) _
+    (omega (arith, rolls-long)) (omega (arith, lists-long (c .args .turns .now))) (c .loop-i .inv))
 
 pub returns-in-Ok : need.returns-in-Ok
 returns-in-Ok g c =

@@ -15,8 +15,8 @@ pub returns : need.returns
 returns c =
     let b = c .args .b .now in
     let own = c .in-Some .ensures tt in
-    let other = c .in-Some-place-of .ensures tt in
-    ( record {
+    let other = c .in-Some-place-of .ensures tt in (
+      record {
         ending = record {
           own = own .1 .home;
           other = other .1 .home;
@@ -25,5 +25,6 @@ returns c =
         };
         own = own .1 .few;
         other = other .1 .few;
-      }
-    , other .2 )
+      },
+      other .2,
+    )

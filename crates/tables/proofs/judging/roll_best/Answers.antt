@@ -26,7 +26,7 @@ returns-in-Ok g c =
     let size = c .in-Some .ensures tt in
     let face = c .in-Some-facing-place .ensures tt in
     let home : (t : List Move) → In t (listed p (r .0) (r .1)) → HomeFor (c .args .n) (played p t .own) =
-        λ t i. turn-for (c .args .n) p (r .0) (r .1) t (face .0) roll (listed-is p (r .0) (r .1) (sound p (face .0 .ending)) .only t i)
+    λ t i. turn-for (c .args .n) p (r .0) (r .1) t (face .0) roll (listed-is p (r .0) (r .1) (sound p (face .0 .ending)) .only t i)
     in
     let best = best-shown k p _ (c .in-Ok .all) (listed p (r .0) (r .1)) refl (c .lost .ensures) (size .0) home (c .in-Ok .ensures tt .1) in
     let answer : RollBest k (c .args .n) p r (c .args .rows .now) (c .in-Ok .all .best) = record {
@@ -35,8 +35,8 @@ returns-in-Ok g c =
       square = (let e = c .square .ensures .0 (c .if-not-square .left) in rw (size .1) at e);
       ending = face .0;
       best = best
-        ∙ ap (bestOf k) (map-twice (afterPlace k (c .in-Some .size) (c .args .rows .now) (c .in-Some-facing-place .other)) (λ t. place (c .args .n) (played p t .own)) (listed p (r .0) (r .1)))
-        ∙ ap (λ s. bestPlace k s (c .args .rows .now) (c .in-Some-facing-place .other) (ledTo (c .args .n) p r)) (size .1)
-        ∙ ap (λ o. bestPlace k (placesOf (c .args .n)) (c .args .rows .now) o (ledTo (c .args .n) p r)) (face .1);
+          ∙ ap (bestOf k) (map-twice (afterPlace k (c .in-Some .size) (c .args .rows .now) (c .in-Some-facing-place .other)) (λ t. place (c .args .n) (played p t .own)) (listed p (r .0) (r .1)))
+          ∙ ap (λ s. bestPlace k s (c .args .rows .now) (c .in-Some-facing-place .other) (ledTo (c .args .n) p r)) (size .1)
+          ∙ ap (λ o. bestPlace k (placesOf (c .args .n)) (c .args .rows .now) o (ledTo (c .args .n) p r)) (face .1);
     } in
     record { answer = answer; sound = sound-best k (c .args .n) p r (c .args .rows .now) (c .in-Ok .all .best) (face .0) roll (answer .best) }

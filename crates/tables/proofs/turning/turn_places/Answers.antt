@@ -12,10 +12,11 @@ use Rattle.tables.proofs.turning.turn_places.Needs as need
 
 pub loop-i-again : need.loop-i-again
 loop-i-again c =
-    let made = rw (c .mirrored-b .ensures, c .roll-at .ensures) at (c .in-Some-roll-places .ensures tt) in
-    ( omega (arith, c .in-Ok .ensures tt .len, c .loop-i .inv .0)
-    , ap (map vec-items) (c .in-Ok .ensures tt .items)
-        ∙ made-more vec-items (ledTo (c .args .n) (facing (c .args .side .now))) (vec-items (c .loop-i .lists)) _ rolls (c .loop-i .i) (0, 0) (omega (arith, rolls-long)) (c .loop-i .inv .1) made )
+    let made = rw (c .mirrored-b .ensures, c .roll-at .ensures) at (c .in-Some-roll-places .ensures tt) in (
+      omega (arith, c .in-Ok .ensures tt .len, c .loop-i .inv .0),
+      ap (map vec-items) (c .in-Ok .ensures tt .items)
+          ∙ made-more vec-items (ledTo (c .args .n) (facing (c .args .side .now))) (vec-items (c .loop-i .lists)) _ rolls (c .loop-i .i) (0, 0) (omega (arith, rolls-long)) (c .loop-i .inv .1) made,
+    )
 
 pub returns : need.returns
 returns c =
