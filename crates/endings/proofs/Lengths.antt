@@ -68,15 +68,6 @@ length-is p e =
     lasts-same (bothPips p) (suc (bothPips p)) p e (omega arith) (omega arith)
     ∙ ap (λ l. suc (greatest l)) (same-more (lasts (bothPips p)) lengthOf p e (λ q f l. lasts-same (bothPips p) (bothPips q) q f (omega arith) (omega arith)))
 
--- an allowed turn leads to a smaller length
-pub length-less : (p : Position) (r : TwoDice) (t : List Move) → Ending p → In r rolls → Allowed p (r .0) (r .1) t → off (played p t) ≡ false → lengthOf (swapped (played p t)) < lengthOf p
-length-less p r t e i a o =
-    let l = listed-is p (r .0) (r .1) (sound p e) .every t a in
-    let v = mapped-bound (more lengthOf p) t (listed p (r .0) (r .1)) l in
-    let w = mapped-bound (longestOf lengthOf p) r rolls i in
-    let z : more lengthOf p t ≡ lengthOf (swapped (played p t)) = rw o in
-    omega (arith, v, w, z, length-is p e)
-
 -- the length is 1 plus the greatest number of rolls to come after an allowed turn of any roll
 pub most-after : (p : Position) → Ending p → (m : ℕ) × MostAfter lengthOf p m × (lengthOf p ≡ suc m)
 most-after p e = (greatest (map (longestOf lengthOf p) rolls), record { bound = bound; reached = reached }, length-is p e)
@@ -97,6 +88,13 @@ most-after p e = (greatest (map (longestOf lengthOf p) rolls), record { bound = 
         let u = some-allowed p (r .0 .0) (r .0 .1) (sound p e) (d .0 .1) (d .1 .1) in
         let t = greatest-reached (more lengthOf p) (u .0) (listed p (r .0 .0) (r .0 .1)) (list (r .0) .every (u .0) (u .1)) in
         (r .0 .0, r .0 .1, t .0, d, list (r .0) .only (t .0) (t .1), t .2 ∙ r .2)
+
+-- an allowed turn leads to a smaller length
+pub length-less : (p : Position) (x y : ℕ) (t : List Move) → Ending p → Roll x y → Allowed p x y t → off (played p t) ≡ false → lengthOf (swapped (played p t)) < lengthOf p
+length-less p x y t e d a o =
+    let m = most-after p e in
+    let z : more lengthOf p t ≡ lengthOf (swapped (played p t)) = rw o in
+    omega (arith, m .1 .bound x y t d a, m .2, z)
 
 lasts-le : (n : ℕ) (p : Position) → lasts n p ≤ n
 unfolding lasts

@@ -20,4 +20,5 @@ pub mod Full
 pub mod Afters
 pub mod HomeMoves
 pub mod HomeTurns
+pub mod HomeResults
 pub mod HomeChances

@@ -18,7 +18,7 @@ use Rattle.endings.specs.Pips.{bothPips}
 use Rattle.endings.specs.Rolls.{rolls, weight}
 use Rattle.endings.specs.Chance.{best, chance, Best}
 use Rattle.endings.specs.Length.{lengthOf, MostAfter}
-use Rattle.endings.specs.Exact.{exact}
+use Rattle.endings.specs.Exact.{exact, exactLoss}
 
 pub record Laws : Type 0 where
   -- the rolls are 36 in all
@@ -34,7 +34,7 @@ pub record Laws : Type 0 where
   pub moves : (p : Position) (x y : ℕ) (t : List Move) → Ending p → Roll x y → Allowed p x y t → 0 < length t
   -- a turn leads to an empty side, or to an ending of the other player with fewer pips
   pub leads : (p : Position) (x y : ℕ) (t : List Move) → Ending p → Roll x y → Allowed p x y t → (on (played p t .own) 0 ≡ checkers → ⊥) → Ending (swapped (played p t)) × (bothPips (swapped (played p t)) < bothPips p)
-  -- which has at most n checkers on each side where the first had
+  -- there, too, each side has at most n checkers where it had before
   pub stays : (n : ℕ) (p : Position) (x y : ℕ) (t : List Move) → EndingFor n p → Roll x y → Allowed p x y t → (on (played p t .own) 0 ≡ checkers → ⊥) → EndingFor n (swapped (played p t))
   -- neither the allowed turns nor where they lead the own side rest on the other side
   pub alike : (p q : Position) (x y : ℕ) → Ending p → Ending q → p .own ≡ q .own → (listed p x y ≡ listed q x y) × ((t : List Move) → played p t .own ≡ played q t .own)
@@ -47,3 +47,5 @@ pub record Laws : Type 0 where
   pub settled : (n : ℕ) (p : Position) → Ending p → lengthOf p ≤ n → chance n p ≡ exact n p
   -- it is the mean over the 36 rolls of the best exact chance after an allowed turn
   pub means : (n : ℕ) (p : Position) → Ending p → lengthOf p ≤ suc n → exact (suc n) p ≡ sumBy (λ r. weight r * best (36 ^ n) (exact n) p r) rolls
+  -- and the loss of a turn is one fraction likewise
+  pub losses : (n : ℕ) (p : Position) (x y : ℕ) (t : List Move) → Ending p → Roll x y → Allowed p x y t → lengthOf p ≤ suc n → exactLoss (suc n) p (x, y) t ≡ 36 * exactLoss n p (x, y) t

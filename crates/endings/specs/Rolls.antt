@@ -4,10 +4,11 @@ use mathlib.Core.List.{List, [], _∷_}
 use Prim.Native.Nat.{ℕ}
 use lib.Dec.{eqb}
 
+-- a roll: its two dice
 abbrev pub TwoDice : Type 0
 TwoDice = ℕ × ℕ
 
--- in the order in which they are summed
+-- each once, the larger die first, in the order in which they are summed
 unfoldable pub rolls : List TwoDice
 rolls =
     (1, 1)

@@ -109,7 +109,7 @@ quick-loss = refl
 loss : exactLoss 3 fourThree (2, 1) ((4, 2) ∷ (3, 1) ∷ []) * 1296 ≡ 80 * 36 ^ 3
 loss =
     let roll : best (36 ^ 3) (exact 3) (at four two) (2, 1) ≡ homeBest (36 ^ 3) (homeChance 3 two) four (2, 1) =
-    best-same (36 ^ 3) (exact 3) (chance 3) (at four two) (2, 1) four-two in-rolls (λ q e k. sym (chance-exact 3 q e (omega (arith, k, four-lasts))))
+    best-same (at four two) (2, 1) four-two two-one (36 ^ 3) (exact 3) (chance 3) (λ q e k. sym (chance-exact 3 q e (omega (arith, k, four-lasts))))
     ∙ best-quick four two four-two refl refl (2, 1) in-rolls (36 ^ 3) (chance 3) (homeChance 3 two) (λ c e l. chance-quick 3 two c e refl l)
     in
     let rest : exact 3 (at two two) ≡ homeChance 3 two two = sym (chance-exact 3 (at two two) two-two (omega (arith, two-lasts))) ∙ chance-quick 3 two two two-two refl refl in

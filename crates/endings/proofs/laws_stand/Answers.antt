@@ -7,7 +7,7 @@ use Rattle.endings.proofs.Leads.{moves, turn-leads}
 use Rattle.endings.proofs.Alike.{own-same, listed-same}
 use Rattle.endings.proofs.Lengths.{most-after}
 use Rattle.endings.proofs.Short.{length-short}
-use Rattle.endings.proofs.Settles.{chance-same, chance-exact, exact-step}
+use Rattle.endings.proofs.Settles.{chance-same, chance-exact, exact-step, loss-same}
 use Rattle.endings.proofs.Places.{sizes}
 use Rattle.endings.proofs.HomePlaces.{below, apart, each, first}
 use Rattle.endings.proofs.Falls.{move-falls, turn-falls, leads-for}
@@ -30,6 +30,7 @@ chances =
       settles = chance-same;
       settled = chance-exact;
       means = exact-step;
+      losses = λ n p x y. loss-same n p (x, y);
     }
 
 places : PlaceLaws
