@@ -1,8 +1,8 @@
 -- Each entry is the closed sum over the entries, and holds the exact chance.
 use mathlib.Core.Path.{_≡_, refl, sym, _∙_, ap, subst}
 use mathlib.Core.Logic.{inl, inr}
-use mathlib.Core.Bool.{true, false, cond}
-use mathlib.Core.List.{List, [], _∷_, map}
+use mathlib.Core.Bool.{true, false}
+use mathlib.Core.List.{List, [], _∷_}
 use Prim.Native.Nat.{ℕ, zero, suc, _-_, _*_, _≤_, _<_}
 use native.Mathlib.Omega.{arith}
 use lib.Dec.{leb}
@@ -51,7 +51,7 @@ module _ {V S R A B C : Type 0} (k : Ghosts V S R A B C) where
   sum-alike f g p e h = added-alike (bestValue k f p) (bestValue k g p) (k .empty) rolls (λ r i. best-alike f g p (r .0) (r .1) e (rolls-fine r i) h)
 
   closed-alike : (f g : Position → V) (p : Position) → Ending p → Alike f g p → closedValue k f p ≡ closedValue k g p
-  closed-alike f g p e h = ap (λ s. cond (leb (lengthOf p) (k .reach)) (k .closed s) (k .lost)) (sum-alike f g p e h)
+  closed-alike f g p e h = rw (sum-alike f g p e h)
 
   within-same : (m n : ℕ) (p : Position) → Ending p → lengthOf p ≤ m → lengthOf p ≤ n → valueWithin k m p ≡ valueWithin k n p
   unfolding valueWithin
