@@ -24,7 +24,7 @@ pub fn reply(heap: Global, setting: &Setting, command: &Command) -> Result<Reply
             Err(NoListing::Refused(refusal)) => Ok(Reply::Refused(refusal)),
             Err(NoListing::NoMemory) => Err(AllocError),
         },
-        Command::Play(a, b, moves) => match setting.play((*a, *b), moves_of(moves)) {
+        Command::Play(a, b, moves) => match setting.make_turn((*a, *b), moves_of(moves)) {
             Ok(after) => Ok(Reply::Made((*a, *b), *moves, after)),
             Err(refusal) => Ok(Reply::Refused(refusal)),
         },

@@ -1,4 +1,4 @@
 // A board with the player due.
 pub mod placing;
-pub mod playing;
 pub mod setting;
+pub mod turning;

@@ -9,7 +9,7 @@ use turns::check::check_turn;
 
 impl Setting {
     // The setting after the turn of the player due, with the other player due then; or the first refusal that applies.
-    pub fn play(&self, roll: (u8, u8), turn: &[(u8, u8)]) -> Result<Setting, Refusal>
+    pub fn make_turn(&self, roll: (u8, u8), turn: &[(u8, u8)]) -> Result<Setting, Refusal>
         ensures { λ r. ⌜ PlayedOn (now (self .entry)) (roll .0) (roll .1) (now (turn .entry)) r ⌝ }
     {
         match check_turn(&self.board, roll, turn) {
