@@ -4,3 +4,4 @@ pub mod Leading
 pub mod Visiting
 pub mod Linked
 pub mod Entering
+pub mod Losing

@@ -25,7 +25,7 @@ use Rattle.endings.proofs.Lengths.{sound, length-some}
 use Rattle.values.specs.Best.{afterValue, bestOf, bestValue, sumValue}
 use Rattle.values.specs.Entry.{unlessEmpty, closedValue, valueWithin, valueEntry}
 use Rattle.values.specs.Laws.{Reached, Entered, Others}
-use Rattle.values.proofs.Dice.{reached}
+use Rattle.values.proofs.Reaching.{reached}
 use Rattle.values.proofs.Exact.{own-left, other-left}
 use Rattle.values.proofs.Judging.{summed}
 

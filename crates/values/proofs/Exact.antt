@@ -24,7 +24,7 @@ use Rattle.endings.proofs.Lengths.{sound, longestOf, length-is}
 use Rattle.endings.proofs.Settles.{chance-exact}
 use Rattle.values.specs.Entry.{lengthEntry}
 use Rattle.values.specs.Laws.{Reached}
-use Rattle.values.proofs.Dice.{reached}
+use Rattle.values.proofs.Reaching.{reached}
 
 -- neither side of an ending is empty
 pub own-left : (p : Position) → Ending p → off p ≡ false

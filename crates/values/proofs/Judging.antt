@@ -28,7 +28,7 @@ use Rattle.endings.proofs.Lengths.{sound, longestOf, length-is, length-some}
 use Rattle.endings.proofs.Settles.{chance-exact}
 use Rattle.values.specs.Best.{afterValue, bestValue, sumValue}
 use Rattle.values.specs.Laws.{Others, Judged, Summed}
-use Rattle.values.proofs.Dice.{reached}
+use Rattle.values.proofs.Reaching.{reached}
 use Rattle.values.proofs.Bests.{Aged, best-aged}
 use Rattle.values.proofs.Sums.{Sums, as-is, empty-sum, sum-aged, closed-aged}
 

@@ -1,4 +1,4 @@
-pub mod Dice
+pub mod Reaching
 pub mod Exact
 pub mod Bests
 pub mod Sums
