@@ -56,7 +56,7 @@ const CASES: [Case; 20] = [
 
 #[test]
 fn exact_chances(rt: LibcRuntime) -> Result<(), Fail> {
-    let table: SmallTable<Exact> = filled::<Exact>(rt.alloc())?;
+    let table: SmallTable<Exact> = filled::<Exact>(rt.alloc(), 2)?;
     for case in &CASES {
         let (own, other, length, number, _, _) = *case;
         let got = table.asked(own, other);
@@ -67,11 +67,21 @@ fn exact_chances(rt: LibcRuntime) -> Result<(), Fail> {
 
 #[test]
 fn fixed_ranges(rt: LibcRuntime) -> Result<(), Fail> {
-    let table: SmallTable<Fixed> = filled::<Fixed>(rt.alloc())?;
+    let table: SmallTable<Fixed> = filled::<Fixed>(rt.alloc(), 2)?;
     for case in &CASES {
         let (own, other, length, _, lower, upper) = *case;
         let got = table.asked(own, other);
         check(got == Some((lower, upper, length)))?;
     }
     Ok(())
+}
+
+// One checker on each side, in the table for one.
+#[test]
+fn one_checker_each(rt: LibcRuntime) -> Result<(), Fail> {
+    let table: SmallTable<Fixed> = filled::<Fixed>(rt.alloc(), 1)?;
+    check(table.asked((6, 0), (1, 0)) == Some((750000000, 750000000, 2)))?;
+    check(table.asked((6, 0), (6, 0)) == Some((812500000, 812500000, 3)))?;
+    check(table.asked((3, 0), (6, 0)) == Some((1000000000, 1000000000, 1)))?;
+    check(table.asked((6, 5), (1, 0)) == None)
 }

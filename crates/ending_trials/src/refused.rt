@@ -27,7 +27,7 @@ fn number(n: u8, own: &[u8; 25], other: &[u8; 25], table: &SmallTable<Fixed>) ->
 
 #[test]
 fn refusals_of_asking(rt: LibcRuntime) -> Result<(), Fail> {
-    let table: SmallTable<Fixed> = filled::<Fixed>(rt.alloc())?;
+    let table: SmallTable<Fixed> = filled::<Fixed>(rt.alloc(), 2)?;
     check_eq(number(0, &counts((1, 0)), &counts((1, 0)), &table), 10)?;
     check_eq(number(7, &counts((1, 0)), &counts((1, 0)), &table), 10)?;
     check_eq(number(3, &counts((1, 0)), &counts((1, 0)), &table), 11)?;
@@ -39,7 +39,7 @@ fn refusals_of_asking(rt: LibcRuntime) -> Result<(), Fail> {
 // 4 and 3 against two on 2 with 2-1, played to two on 2: 80/1296 is given away.
 #[test]
 fn loss_of_a_turn(rt: LibcRuntime) -> Result<(), Fail> {
-    let table: SmallTable<Fixed> = filled::<Fixed>(rt.alloc())?;
+    let table: SmallTable<Fixed> = filled::<Fixed>(rt.alloc(), 2)?;
     let Ok(board) = set_up(&counts((4, 3)), &counts((2, 2))) else {
         return Err(Fail::new("no board"));
     };

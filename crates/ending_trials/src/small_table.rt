@@ -1,6 +1,7 @@
-// A table for two checkers, filled entry by entry.
+// A table for few checkers, filled entry by entry.
 use chance::kind::Chance;
 use places::side::side_at;
+use places::ways::count_of;
 use std::alloc::Global;
 use std::test::*;
 use tables::ask::ask;
@@ -8,25 +9,23 @@ use tables::entry::entry;
 use tables::moving::SideTurns;
 use tables::turning::turn_places;
 
-pub const N: u8 = 2;
-
-pub const SIZE: usize = 28;
-
-// Both parts.
+// Both parts of a table for n checkers, which has so many sides.
 #[derive(Drop)]
 pub struct SmallTable<K: Chance> {
+    pub n: u8,
+    size: usize,
     pub lengths: Vec<u8>,
     pub rows: Vec<K::Row>,
 }
 
 // The turns of the sides at places 1 and on; the side at 0 is empty.
-fn all_turns(heap: Global) -> Result<Vec<SideTurns>, Fail> {
+fn all_turns(heap: Global, n: u8, size: usize) -> Result<Vec<SideTurns>, Fail> {
     let mut all = Vec::new(heap);
-    for place in 1..SIZE {
-        let Some(side) = side_at(N, place) else {
+    for place in 1..size {
+        let Some(side) = side_at(n, place) else {
             return Err(Fail::new("no side"));
         };
-        let Ok(turns) = turn_places(heap, N, &side) else {
+        let Ok(turns) = turn_places(heap, n, &side) else {
             return Err(Fail::new("no turns"));
         };
         all.push(turns)?;
@@ -50,10 +49,12 @@ pub fn counts(points: (u8, u8)) -> [u8; 25] {
 impl<K: Chance> SmallTable<K> {
     // Lower end, upper end and age, none where asking is refused.
     pub fn asked(&self, own: (u8, u8), other: (u8, u8)) -> Option<(u64, u64, u64)> {
+        let own = counts(own);
+        let other = counts(other);
         match ask::<K>(
-            N,
-            &counts(own),
-            &counts(other),
+            self.n,
+            &own,
+            &other,
             self.lengths.as_slice(),
             self.rows.as_slice(),
         ) {
@@ -64,17 +65,17 @@ impl<K: Chance> SmallTable<K> {
 
     // The entry of the places a and b, put where it stands.
     fn put(&mut self, all: &[SideTurns], a: usize, b: usize) {
-        if a == 0 || a > all.len() || b >= SIZE {
+        if a == 0 || a > all.len() || a > 1000 || b > 1000 || self.size > 1000 {
             return;
         }
         let (length, value) = entry::<K>(
-            SIZE,
+            self.size,
             self.lengths.as_slice(),
             self.rows.as_slice(),
             b,
             &all[a - 1],
         );
-        let at = a * SIZE + b;
+        let at = a * self.size + b;
         if at < self.lengths.len() && at < self.rows.len() {
             self.lengths[at] = length;
             self.rows[at] = value.write_row();
@@ -82,18 +83,22 @@ impl<K: Chance> SmallTable<K> {
     }
 }
 
-// All entries, an ending after those to which it leads.
-pub fn filled<K: Chance>(heap: Global) -> Result<SmallTable<K>, Fail> {
-    let all = all_turns(heap)?;
+// All entries of a table for n checkers, an ending after those to which it leads.
+pub fn filled<K: Chance>(heap: Global, n: u8) -> Result<SmallTable<K>, Fail> {
+    let size = count_of(n).ok_or("no such table")?;
+    check(size <= 1000)?;
+    let all = all_turns(heap, n, size)?;
     let mut table = SmallTable::<K> {
+        n,
+        size,
         lengths: Vec::new(heap),
         rows: Vec::new(heap),
     };
-    for _ in 0..SIZE * SIZE {
+    for _ in 0..size * size {
         table.lengths.push(0)?;
         table.rows.push(K::lost().write_row())?;
     }
-    for m in 1..SIZE {
+    for m in 1..size {
         for j in 1..m + 1 {
             table.put(all.as_slice(), m, j);
             table.put(all.as_slice(), j, m);
