@@ -4,5 +4,6 @@ pub mod Sums
 pub mod Led
 pub mod Loss
 pub mod Asking
+pub mod Bettering
 pub mod Judging
 pub mod Filled

@@ -1,16 +1,12 @@
 // The best of a roll over a lent table.
 ghost use mathlib.Core.Path.{_≡_};
-ghost use mathlib.Core.Bool.{cond, true};
-ghost use Prim.Native.Nat.{_*_};
-ghost use denote.Ref.{now};
-ghost use lib.ListN.{length};
 ghost use Rattle.std.specs.Options.{Cases as BySome};
 ghost use Rattle.std.specs.Results.{Cases};
 ghost use Rattle.board.specs.Position.{position};
-ghost use Rattle.endings.specs.Ending.{HomeFor, EndingFor};
-ghost use Rattle.endings.specs.Place.{place, placesOf};
-ghost use Rattle.places.specs.Asked.{Size, PlaceOf};
-ghost use Rattle.tables.specs.Parts.{afterPlace};
+ghost use Rattle.endings.specs.Ending.{EndingFor};
+ghost use Rattle.endings.specs.Place.{place};
+ghost use Rattle.places.specs.Asked.{Size};
+ghost use Rattle.tables.specs.Bettering.{Bettered};
 ghost use Rattle.tables.specs.Judging.{RollBest, Unjudged};
 ghost use Rattle.tables.specs.Filled.{SoundBest};
 use crate::ask::square;
@@ -28,6 +24,7 @@ use refusals::refusal::Refusal;
 use turns::roll::dice_of;
 
 // The best so far of a roller against the place of the other side, in a table for n checkers.
+#[derive(Drop)]
 pub struct Best<'a, K: Chance> {
     n: u8,
     size: usize,
@@ -38,29 +35,25 @@ pub struct Best<'a, K: Chance> {
 }
 
 pub impl<'a, K: Chance> Visit for Best<'a, K> as BestVisit {
-    ghost step = { λ v _ p w. Size (v .n) → HomeFor (v .n) (p .own) → w ≡ record { n = v .n; size = v .size; other = v .other; rows = v .rows; some = true; best = cond (v .some) (K·Chance .better (v .best) (afterPlace K·Chance (v .size) (now (v .rows)) (v .other) (place (v .n) (p .own)))) (afterPlace K·Chance (v .size) (now (v .rows)) (v .other) (place (v .n) (p .own))) } };
+    ghost step = { Bettered K·Chance };
 
     fn visit(self, _turn: &Turn, after: &Board) -> Best<'a, K> {
-        let Best {
-            n,
-            size,
-            other,
-            rows,
-            some,
-            best,
-        } = self;
-        let best = match place_of(n, &after.own) {
-            None => best,
+        let best = match place_of(self.n, &after.own) {
+            None => self.best,
             Some(place) => {
-                let value = after_place::<K>(size, rows, other, place);
-                if some { best.better(value) } else { value }
+                let value = after_place::<K>(self.size, self.rows, self.other, place);
+                if self.some {
+                    self.best.better(value)
+                } else {
+                    value
+                }
             }
         };
         Best {
-            n,
-            size,
-            other,
-            rows,
+            n: self.n,
+            size: self.size,
+            other: self.other,
+            rows: self.rows,
             some: true,
             best,
         }
@@ -109,29 +102,7 @@ pub fn roll_best<K: Chance>(n: u8, b: &Board, roll: (u8, u8), rows: &[K::Row]) -
         best: K::lost(),
     };
     match visit_turns(b, roll, none) {
-        Ok(all) => {
-            let Best {
-                n: _,
-                size: _,
-                other: _,
-                rows: _,
-                some: _,
-                best,
-            } = all;
-            Ok(best)
-        }
-        Err(
-            (
-                refusal,
-                Best {
-                    n: _,
-                    size: _,
-                    other: _,
-                    rows: _,
-                    some: _,
-                    best: _,
-                },
-            ),
-        ) => Err(refusal),
+        Ok(all) => Ok(all.best),
+        Err((refusal, _)) => Err(refusal),
     }
 }
