@@ -7,6 +7,7 @@ ghost use Rattle.tables.specs.Filled.{SoundEntry};
 use crate::moving::SideTurns;
 use crate::over::best_over;
 use crate::over::length_over;
+use crate::over::longer;
 use crate::rolls::roll_at;
 use crate::rolls::weight_of;
 use chance::constants::reach_of;
@@ -18,7 +19,7 @@ pub fn length_of(size: usize, lengths: &[u8], b: usize, turns: &SideTurns) -> u8
 {
     let mut most: u8 = 0;
     for i in 0..21 {
-        most = most.max(length_over(size, lengths, b, turns.of_roll(i)));
+        most = longer(most, length_over(size, lengths, b, turns.of_roll(i)));
     }
     most.saturating_add(1)
 }

@@ -1,5 +1,6 @@
 // The best value and the greatest length over the places that a roll's turns lead to.
 ghost use mathlib.Core.Path.{_≡_};
+ghost use Prim.Native.Nat.{max};
 ghost use Rattle.tables.specs.Parts.{bestPlace, mostLength};
 use crate::lookup::after_length;
 use crate::lookup::after_place;
@@ -19,13 +20,20 @@ pub fn best_over<K: Chance>(size: usize, rows: &[K::Row], b: usize, places: &[u1
     best
 }
 
+// The greater of two lengths.
+pub(crate) fn longer(a: u8, b: u8) -> u8
+    ensures { λ r. ⌜ r ≡ max a b ⌝ }
+{
+    a.max(b)
+}
+
 // The greatest length after a turn.
 pub fn length_over(size: usize, lengths: &[u8], b: usize, places: &[u16]) -> u8
     ensures { λ r. ⌜ r ≡ mostLength size (now (lengths .entry)) b (now (places .entry)) ⌝ }
 {
     let mut most: u8 = 0;
     for q in places {
-        most = most.max(after_length(size, lengths, b, *q as usize));
+        most = longer(most, after_length(size, lengths, b, *q as usize));
     }
     most
 }

@@ -10,7 +10,7 @@ use Rattle.tables.proofs.entry.length_of.Needs as need
 
 pub loop-i-again : need.loop-i-again
 loop-i-again c =
-    rw (c .max-most .ensures, c .length-over .ensures, c .of-roll .ensures)
+    rw (c .longer-most .ensures, c .length-over .ensures, c .of-roll .ensures)
     (most-more (mostLength (c .args .size) (c .args .lengths .now) (c .args .b)) (placeLists (c .args .turns .now)) (c .loop-i .i) (c .loop-i .most) [] (omega (arith, lists-long (c .args .turns .now))) (c .loop-i .inv))
 
 pub returns : need.returns
