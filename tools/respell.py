@@ -43,7 +43,7 @@ def own_names():
             if line.startswith(("--", "use ", "mod ", "pub mod")):
                 continue
             m = INDENTED.match(line) if line[:1].isspace() else DEFINED.match(line)
-            if m and not (in_record and line[:1].isspace() and m.group(0).lstrip().startswith("pub ")):
+            if m and (m.group(1) or not (in_record and line[:1].isspace() and m.group(0).lstrip().startswith("pub "))):
                 names.setdefault(m.group(2), path)
                 functions.add(m.group(2))
                 in_record = bool(m.group(1))

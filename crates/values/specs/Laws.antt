@@ -52,7 +52,7 @@ module _ {V S R A B C : Type 0} (k : Ghosts V S R A B C) where
     pub young : k.oldest (sum_value k others p) < k.reach
     pub entered : Entered p (k.closed (sum_value k others p))
 
-  pub record Entries-law : Type 0 where
+  pub record EntriesLaw : Type 0 where
     -- an entry within the reach holds the exact chance, its age is the length, and its ends are at most a grain apart for each roll
     pub holds : (p : Position) → Ending p → length_of p ≤ k.reach → Entered p (value_entry k p)
     pub narrow : (p : Position) → Ending p → length_of p ≤ k.reach → k.upper (value_entry k p) - k.lower (value_entry k p) ≤ k.grain * length_of p
