@@ -1,4 +1,6 @@
 // Players, boards and single moves.
+#![tactic(auto)]
+
 pub mod board;
 pub mod player;
 pub mod setup;

@@ -1,6 +1,6 @@
 -- The greatest of several fractions.
 use Rattle.std.specs.Prelude.{◌*◌, ◌≤◌, ◌⊎◌, List, [], ◌∷◌}
-use Rattle.std.specs.List.{AllByRecursion as All}
+use Rattle.std.specs.List.{AllByRecursion}
 use Rattle.chance.specs.Fraction.{Fraction}
 
 -- p is at most q
@@ -14,5 +14,5 @@ Reached g (q ∷ qs) = AtMost g q ⊎ Reached g qs
 
 -- each of the fractions is at most g, and g is at most one of them
 pub record Greatest (g : Fraction) (qs : List Fraction) : Type 0 where
-  pub above : All (λ q. AtMost q g) qs
+  pub above : AllByRecursion (λ q. AtMost q g) qs
   pub reached : Reached g qs

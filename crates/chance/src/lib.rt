@@ -1,4 +1,6 @@
 // Kinds of chance number: what each of them keeps, and the refusals of sums.
+#![tactic(auto)]
+
 pub mod constants;
 pub mod kind;
 pub mod number;

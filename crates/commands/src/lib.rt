@@ -1,3 +1,5 @@
 // The lines that the program turnlist reads.
+#![tactic(auto)]
+
 pub mod command;
 pub mod reading;

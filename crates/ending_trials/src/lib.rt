@@ -1,4 +1,6 @@
 // Small endings, run and compared with chances reckoned by tools/reference_endings.py.
+#![tactic(auto)]
+
 #[cfg(test)]
 mod both_kinds;
 #[cfg(test)]

@@ -1,4 +1,6 @@
 // Endings: what holds of their exact chances, lengths and places.
+#![tactic(auto)]
+
 ghost use Rattle.endings.specs.Laws.{Laws};
 ghost use Rattle.endings.specs.PlaceLaws.{PlaceLaws};
 

@@ -1,6 +1,6 @@
 -- The counts of a side as hex digits.
 use Rattle.std.proofs.Common.{◌≡◌, ℕ, ◌+◌, ◌<◌, List, [], ◌∷◌, length, get_or, take, set, sym, ap, ◌∙◌, arith}
-use Rattle.std.specs.List.{AllByRecursion as All}
+use Rattle.std.specs.List.{AllByRecursion}
 use Rattle.std.proofs.lemmas.List.{take_more_set, take_more, map_push, length-map, get_or-map}
 use Rattle.std.proofs.ByRecursion.{All-get_or, All-push}
 use Rattle.fields.specs.Sides.{hex, FineCount, count_text, FineSide, side_text}
@@ -19,8 +19,8 @@ wrong_size bytes none s fine e = none (sym (ap length e) ∙ length-map s hex �
 
 -- one count more
 pub counts-more : (bytes counts : List ℕ) (i n : ℕ) → i < length counts → i < length bytes
-    → All FineCount (take i counts) → side_text (take i counts) ≡ take i bytes → FineCount n → count_text n ≡ get_or bytes i 0 ∷ []
-    → All FineCount (take (i + 1) (set counts i n)) × (side_text (take (i + 1) (set counts i n)) ≡ take (i + 1) bytes)
+    → AllByRecursion FineCount (take i counts) → side_text (take i counts) ≡ take i bytes → FineCount n → count_text n ≡ get_or bytes i 0 ∷ []
+    → AllByRecursion FineCount (take (i + 1) (set counts i n)) × (side_text (take (i + 1) (set counts i n)) ≡ take (i + 1) bytes)
 counts-more bytes counts i n h k fine is small here =
     rw (take_more_set counts i n h, take_more bytes i 0 k)
     (All-push FineCount (take i counts) n fine small, (map_push hex (take i counts) n ∙ cc))

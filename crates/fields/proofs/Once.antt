@@ -1,6 +1,6 @@
 -- Bytes are the text of at most one value: a reading back that checks nothing undoes the text.
 use Rattle.std.proofs.Common.{◌≡◌, ℕ, ◌+◌, ◌-◌, ◌*◌, ◌/◌, ◌%◌, cond, eqb, ltb, List, [], ◌∷◌, map, get_or, take, drop, Some, None, sym, refl, ap, ◌∙◌, arith}
-use Rattle.std.specs.List.{AllByRecursion as All}
+use Rattle.std.specs.List.{AllByRecursion}
 use Rattle.std.proofs.lemmas.Bool.Decides.{nat_tests}
 use Rattle.board.specs.declared.player.Player.{Player}
 use Rattle.board.specs.declared.player.Player.TheVariants.{White, Black}
@@ -40,7 +40,7 @@ back-moves (a ∷ b ∷ []) = []
 back-moves (a ∷ b ∷ c ∷ []) = []
 back-moves (a ∷ b ∷ c ∷ d ∷ rest) = (10 * (b - 48) + (c - 48), d - 48) ∷ back-moves rest
 
-pub moves-back : (ms : List (ℕ × ℕ)) → All FineMove ms → back-moves (moves_text ms) ≡ ms
+pub moves-back : (ms : List (ℕ × ℕ)) → AllByRecursion FineMove ms → back-moves (moves_text ms) ≡ ms
 unfolding back-moves
 moves-back [] fine = refl
 moves-back ((s, d) ∷ ms) ((small, die), fine) =
@@ -58,7 +58,7 @@ count_back d h = grind (arith, nat_tests)
 pub back_side : List ℕ → List ℕ
 back_side bs = map unhex bs
 
-pub side_back : (ds : List ℕ) → All FineCount ds → back_side (side_text ds) ≡ ds
+pub side_back : (ds : List ℕ) → AllByRecursion FineCount ds → back_side (side_text ds) ≡ ds
 unfolding back_side
 side_back [] fine = refl
 side_back (d ∷ ds) (small, fine) = rw (count_back d small, side_back ds fine) refl

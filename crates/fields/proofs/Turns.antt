@@ -1,6 +1,6 @@
 -- The text of moves, four bytes to a move.
 use Rattle.std.proofs.Common.{◌≡◌, ℕ, zero, suc, ◌+◌, ◌*◌, ◌<◌, ◌≤◌, List, [], ◌∷◌, length, get_or, take, drop, set, sym, refl, ap, ◌∙◌, arith, take-add}
-use Rattle.std.specs.List.{AllByRecursion as All}
+use Rattle.std.specs.List.{AllByRecursion}
 use Rattle.std.proofs.lemmas.List.{drop_more, take_more_set, take_all, length-take, flat_map_more}
 use Rattle.std.proofs.ByRecursion.{All-get_or, All-push}
 use Rattle.fields.specs.Moves.{FineMove, FineMoves, move_text, moves_text}
@@ -30,9 +30,9 @@ no_move bytes i n h k none ms fine e =
 
 -- one move more
 pub moves_more : (bytes : List ℕ) (list : List (ℕ × ℕ)) (i n : ℕ) (m : ℕ × ℕ) → i < length list → n ≡ 4
-    → All FineMove (take i list) → moves_text (take i list) ≡ take (4 * i) bytes
+    → AllByRecursion FineMove (take i list) → moves_text (take i list) ≡ take (4 * i) bytes
     → FineMove m → move_text m ≡ take n (drop (4 * i) bytes)
-    → All FineMove (take (i + 1) (set list i m)) × (moves_text (take (i + 1) (set list i m)) ≡ take (4 * (i + 1)) bytes)
+    → AllByRecursion FineMove (take (i + 1) (set list i m)) × (moves_text (take (i + 1) (set list i m)) ≡ take (4 * (i + 1)) bytes)
 moves_more bytes list i n m h k fine is fine-m is_m =
     let e : 4 * (i + 1) ≡ 4 * i + 4 = omega arith in
     rw (take_more_set list i m h, e, take-add (4 * i) 4 bytes) (
@@ -42,7 +42,7 @@ moves_more bytes list i n m h k fine is fine-m is_m =
 
 -- all the moves
 pub moves_done : (bytes : List ℕ) (list : List (ℕ × ℕ)) (i count : ℕ) → count ≡ i → count ≤ 8 → 4 * count ≡ length bytes
-    → All FineMove (take i list) → moves_text (take i list) ≡ take (4 * i) bytes
+    → AllByRecursion FineMove (take i list) → moves_text (take i list) ≡ take (4 * i) bytes
     → FineMoves (take count list) × (moves_text (take count list) ≡ bytes)
 moves_done bytes list i count end few size fine is =
     let whole = take_all (4 * i) bytes (omega arith) in

@@ -1,6 +1,6 @@
 -- The moves of a turn and their text.
 use Rattle.std.specs.Prelude.{◌≡◌, ℕ, ◌*◌, ◌<◌, ◌≤◌, List, ◌∷◌, ◌++◌, length, take, Some, None, Option, ◌≢◌}
-use Rattle.std.specs.List.{flat_map, AllByRecursion as All}
+use Rattle.std.specs.List.{flat_map, AllByRecursion}
 use Rattle.fields.specs.declared.moves.Moves.{Moves}
 use Rattle.fields.specs.Digits.{FineDigit, padded}
 
@@ -23,7 +23,7 @@ move_text m = 32 ∷ (padded 2 m.0 ++ padded 1 m.1)
 
 -- at most eight moves
 abbrev pub FineMoves : List (ℕ × ℕ) → Type 0
-FineMoves ms = (length ms ≤ 8) × All FineMove ms
+FineMoves ms = (length ms ≤ 8) × AllByRecursion FineMove ms
 
 -- one behind the other
 abbrev pub moves_text : List (ℕ × ℕ) → List ℕ

@@ -1,6 +1,6 @@
 -- The sides of a board and their text.
 use Rattle.std.specs.Prelude.{◌≡◌, ℕ, ◌+◌, ◌<◌, cond, List, [], ◌∷◌, ◌++◌, map, length, Some, None, Option, nat_lt}
-use Rattle.std.specs.List.{AllByRecursion as All}
+use Rattle.std.specs.List.{AllByRecursion}
 use Rattle.board.specs.declared.player.Player.{Player}
 use Rattle.fields.specs.declared.sides.Sides.{Sides}
 use Rattle.fields.specs.Letters.{letter}
@@ -19,7 +19,7 @@ count_text d = hex d ∷ []
 
 -- a side has 25 counts, from point 1 to the bar
 abbrev pub FineSide : List ℕ → Type 0
-FineSide s = (length s ≡ 25) × All FineCount s
+FineSide s = (length s ≡ 25) × AllByRecursion FineCount s
 
 -- its counts one behind the other
 abbrev pub side_text : List ℕ → List ℕ

@@ -1,4 +1,6 @@
 // The fields that lines of text share, each read exactly.
+#![tactic(auto)]
+
 pub mod digits;
 pub mod letters;
 pub mod moves;

@@ -1,3 +1,5 @@
 // The fixed range: both ends over 1,000,000,000, rounded outwards.
+#![tactic(auto)]
+
 mod ends;
 pub mod range;

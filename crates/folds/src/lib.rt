@@ -1,4 +1,6 @@
 // The best of several values, and the mean of weighted ones, over every kind.
+#![tactic(auto)]
+
 ghost use Rattle.std.specs.Prelude.{◌≡◌};
 ghost use Rattle.folds.specs.Best.{best, oldest_from, BestHolds};
 ghost use Rattle.folds.specs.Mean.{Mean};

@@ -1,4 +1,6 @@
 // Both kinds of chance number, tried by running them.
+#![tactic(auto)]
+
 #[cfg(test)]
 mod answers;
 #[cfg(test)]

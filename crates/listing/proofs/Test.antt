@@ -1,6 +1,6 @@
 -- The test `may` decides `Legal`.
 use Rattle.std.proofs.Common.{◌≡◌, ℕ, ◌+◌, ◌-◌, ◌*◌, ◌<◌, ◌≤◌, Bool, true, false, cond, ◌&&◌, ◌||◌, eqb, ltb, leb, ◌⊎◌, List, length, get_or, drop, Decides, sum, sym, refl, inl, inr, arith, length-drop}
-use Rattle.std.specs.List.{AllByRecursion as All}
+use Rattle.std.specs.List.{AllByRecursion}
 use Rattle.std.proofs.lemmas.List.{get_or-drop}
 use Rattle.std.proofs.lemmas.List.Sums.{get_or-le-sum_by}
 use Rattle.std.proofs.ByRecursion.{sum_by_le, All-from_get_or}
@@ -20,7 +20,7 @@ clear_true side p l h q k m =
 
 pub clear_from : (side : List ℕ) (p : ℕ) → length side ≡ 26 → ((q : ℕ) → p < q → q ≤ 25 → on side q ≡ 0) → clear side p ≡ true
 clear_from side p l h =
-    let every : All (λ x. x ≤ 0) (drop (p + 1) side) =
+    let every : AllByRecursion (λ x. x ≤ 0) (drop (p + 1) side) =
     All-from_get_or (λ x. x ≤ 0) (drop (p + 1) side) 0
     (λ i k.
     let k' : i < length side - (p + 1) = rw length-drop at k in

@@ -1,4 +1,6 @@
 // The place of a home side, and the side at a place.
+#![tactic(auto)]
+
 pub mod place;
 pub mod side;
 pub mod ways;

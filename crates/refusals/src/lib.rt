@@ -1,3 +1,5 @@
 // Why a call is refused, and what a refusal bears.
+#![tactic(auto)]
+
 pub mod reason;
 pub mod refusal;

@@ -1,4 +1,6 @@
 // One entry of the table of endings, over its lent parts and any kind of chance number.
+#![tactic(auto)]
+
 pub mod ask;
 pub mod entry;
 pub mod judging;

@@ -1,4 +1,6 @@
 // Worked cases of the rules, run.
+#![tactic(auto)]
+
 #[cfg(test)]
 mod bearing_off;
 #[cfg(test)]

@@ -1,4 +1,6 @@
 // Lists the turns that the rules allow, and makes turns.
+#![tactic(auto)]
+
 mod help;
 mod session;
 mod text;

@@ -1,4 +1,6 @@
 // Entries of a table: what holds of them, for every kind.
+#![tactic(auto)]
+
 ghost use Rattle.values.specs.Laws.{EntriesLaw};
 
 use chance::kind::Chance;

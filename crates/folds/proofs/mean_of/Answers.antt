@@ -17,7 +17,7 @@ returns-in-Err g c =
 
 pub loop-part-preserved : goal.loop-part-preserved
 loop-part-preserved g c =
-    next-at g.K.Chance c.args.parts.now c.loop-part.part-index c.part-item.result c.loop-part.sum _ c.loop-part-test.true c.part-item.is c.loop-part.invariant (taken_fits c.in-default.ensures.answer) c.add.ensures.left
+    next-at g.K.Chance c.args.parts.now c.loop-part.part-index c.part-item.result c.loop-part.sum _ c.loop-part-test.true c.part-item.is c.loop-part.invariant (taken_fits c.in_default.ensures.answer) c.add.ensures.left
 
 pub returns : goal.returns
 returns g c = closed_at g.K.Chance c.args.parts.now c.loop-part.part-index c.loop-part.sum _ _ c.loop-part-test.false c.loop-part.invariant c.close.ensures

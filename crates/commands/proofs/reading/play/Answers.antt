@@ -3,15 +3,15 @@ use Rattle.std.proofs.lemmas.List.{take_rest}
 use Rattle.fields.proofs.Elements.{headed}
 use Rattle.commands.proofs.reading.play.Goals as goal
 
-pub returns-in-default-digit : goal.returns-in-default-digit
-returns-in-default-digit c = λ x fine is.
+pub returns-in_default-digit : goal.returns-in_default-digit
+returns-in_default-digit c = λ x fine is.
     let three : 3 ≤ length c.args.fields.now = search rules in
     let e = headed 3 c.args.fields.now three in
-    c.in-default-digit.ensures x.0 fine.0.0 (cc)
+    c.in_default-digit.ensures x.0 fine.0.0 (cc)
 
-pub returns-in-default-read-moves : goal.returns-in-default-read-moves
-returns-in-default-read-moves c = λ x fine is.
-    c.in-default-read-moves.ensures x.2 fine.1 (ap (λ (bs : List ℕ). drop 3 bs) is ∙ sym (take_rest c.args.fields.now 3))
+pub returns-in_default-read_moves : goal.returns-in_default-read_moves
+returns-in_default-read_moves c = λ x fine is.
+    c.in_default-read_moves.ensures x.2 fine.1 (ap (λ (bs : List ℕ). drop 3 bs) is ∙ sym (take_rest c.args.fields.now 3))
 
 pub returns : goal.returns
 returns c =
@@ -20,7 +20,7 @@ returns c =
     let e = headed 3 c.args.fields.now three in
     let a = c.in-Some.ensures in
     let b = c.in-Some-digit.ensures in
-    let ms = c.in-Some-read-moves.ensures in
+    let ms = c.in-Some-read_moves.ensures in
     let a1 = a.1 in
     let b1 = b.1 in
     let m1 = ms.1 in

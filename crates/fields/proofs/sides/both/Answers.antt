@@ -7,11 +7,11 @@ returns-then-bytes-ne51 c = λ x fine e. c.if-bytes-ne51.true (parts x c.args.by
 pub returns-then-bytes-ne32 : goal.returns-then-bytes-ne32
 returns-then-bytes-ne32 c = λ x fine e. c.if-bytes-ne32.true (parts x c.args.bytes.now fine e).space
 
-pub returns-in-default : goal.returns-in-default
-returns-in-default c = λ x fine e. c.in-default.ensures x.0 fine.0 (parts x c.args.bytes.now fine e).white
+pub returns-in_default : goal.returns-in_default
+returns-in_default c = λ x fine e. c.in_default.ensures x.0 fine.0 (parts x c.args.bytes.now fine e).white
 
-pub returns-in-default-side : goal.returns-in-default-side
-returns-in-default-side c = λ x fine e. c.in-default-side.ensures x.1 fine.1 (parts x c.args.bytes.now fine e).black
+pub returns-in_default-side : goal.returns-in_default-side
+returns-in_default-side c = λ x fine e. c.in_default-side.ensures x.1 fine.1 (parts x c.args.bytes.now fine e).black
 
 pub returns : goal.returns
 returns c =

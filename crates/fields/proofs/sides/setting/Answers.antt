@@ -3,9 +3,9 @@ use Rattle.std.proofs.lemmas.List.{take_rest}
 use Rattle.fields.proofs.Elements.{headed}
 use Rattle.fields.proofs.sides.setting.Goals as goal
 
-pub returns-in-default-both : goal.returns-in-default-both
-returns-in-default-both c = λ x fine is.
-    c.in-default-both.ensures (x.1, x.2) fine (ap (λ (bs : List ℕ). drop 3 bs) is ∙ sym (take_rest c.args.bytes.now 3))
+pub returns-in_default-both : goal.returns-in_default-both
+returns-in_default-both c = λ x fine is.
+    c.in_default-both.ensures (x.1, x.2) fine (ap (λ (bs : List ℕ). drop 3 bs) is ∙ sym (take_rest c.args.bytes.now 3))
 
 pub returns : goal.returns
 returns c =

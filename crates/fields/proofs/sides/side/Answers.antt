@@ -6,8 +6,8 @@ use Rattle.fields.proofs.sides.side.Goals as goal
 pub returns-then-bytes-ne25 : goal.returns-then-bytes-ne25
 returns-then-bytes-ne25 c = wrong_size c.args.bytes.now c.if-bytes-ne25.true
 
-pub returns-in-default : goal.returns-in-default
-returns-in-default c = no_count c.args.bytes.now c.loop-i.i (omega arith) c.in-default.ensures
+pub returns-in_default : goal.returns-in_default
+returns-in_default c = no_count c.args.bytes.now c.loop-i.i (omega arith) c.in_default.ensures
 
 pub loop-i-preserved : goal.loop-i-preserved
 loop-i-preserved c =

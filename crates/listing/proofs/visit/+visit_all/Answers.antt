@@ -16,11 +16,11 @@ returns-then-need-eq0 g t c =
     ])
     c.visit.ensures
 
-pub loop-d-preserved-in-default : goal.loop-d-preserved-in-default
-loop-d-preserved-in-default g t c =
+pub loop-d-preserved-in_default : goal.loop-d-preserved-in_default
+loop-d-preserved-in_default g t c =
     let k : 1 ≤ c.loop-d.d - 1 = omega arith in
     die_off g.V.Visit.step (moves_of c.args.made.now) c.args.due (c.args.need - 1) (position c.args.b.now) c.args.dice.now.left (c.loop-d.d - 1)
-    c.loop-d.v c.args.v (rows_by_die c.args.due (c.args.need - 1) (position c.args.b.now) c.args.dice.now.left 6) k c.in-default.ensures c.loop-d.invariant
+    c.loop-d.v c.args.v (rows_by_die c.args.due (c.args.need - 1) (position c.args.b.now) c.args.dice.now.left 6) k c.in_default.ensures c.loop-d.invariant
 
 pub loop-d-preserved : goal.loop-d-preserved
 loop-d-preserved g t c =
@@ -28,22 +28,22 @@ loop-d-preserved g t c =
     die_on g.V.Visit.step (moves_of c.args.made.now) c.args.due (c.args.need - 1) (position c.args.b.now) c.args.dice.now.left (c.loop-d.d - 1) c.loop-s.s
     c.loop-d.v c.loop-s.v c.args.v (rows_by_die c.args.due (c.args.need - 1) (position c.args.b.now) c.args.dice.now.left 6) k c.loop-s-test.false c.loop-s.invariant c.loop-d.invariant
 
-pub loop-s-preserved-in-default-make : goal.loop-s-preserved-in-default-make
-loop-s-preserved-in-default-make g t c =
+pub loop-s-preserved-in_default-make : goal.loop-s-preserved-in_default-make
+loop-s-preserved-in_default-make g t c =
     let k : 1 ≤ c.loop-s.s - 1 = omega arith in
     start_off g.V.Visit.step (moves_of c.args.made.now) c.args.due (c.args.need - 1) (position c.args.b.now) c.args.dice.now.left (c.loop-d.d - 1) (c.loop-s.s - 1)
     c.loop-s.v c.loop-d.v (by_start c.args.due (c.args.need - 1) (position c.args.b.now) c.args.dice.now.left (c.loop-d.d - 1) 25) k
-    (fits_illegal c.args.due (position c.args.b.now) c.args.dice.now.left (c.loop-s.s - 1) (c.loop-d.d - 1) c.args.b.now.long c.in-default-make.ensures)
+    (fits_illegal c.args.due (position c.args.b.now) c.args.dice.now.left (c.loop-s.s - 1) (c.loop-d.d - 1) c.args.b.now.long c.in_default-make.ensures)
     c.loop-s.invariant
 
-pub loop-s-preserved-then-due-met : goal.loop-s-preserved-then-due-met
-loop-s-preserved-then-due-met g t c =
+pub loop-s-preserved-then-due_met : goal.loop-s-preserved-then-due_met
+loop-s-preserved-then-due_met g t c =
     let k : 1 ≤ c.loop-s.s - 1 = omega arith in
     let m = c.in-Some-make.ensures in
-    let behind = rw (m.1, c.in-Some.ensures.left, c.with-more.ensures.moves) at c.visit-all-v.ensures in
+    let behind = rw (m.1, c.in-Some.ensures.left, c.with-more.ensures.moves) at c.visit_all-v.ensures in
     start_on g.V.Visit.step (moves_of c.args.made.now) c.args.due (c.args.need - 1) (position c.args.b.now) c.args.dice.now.left (c.loop-d.d - 1) (c.loop-s.s - 1)
-    c.loop-s.v c.visit-all-v.result c.loop-d.v (by_start c.args.due (c.args.need - 1) (position c.args.b.now) c.args.dice.now.left (c.loop-d.d - 1) 25) k
-    (fits_on c.args.due (position c.args.b.now) (position c.in-Some-make.after) c.args.dice.now.left (c.loop-s.s - 1) (c.loop-d.d - 1) c.args.b.now.long c.in-Some.ensures.has m.0 m.1 (sym c.due-met.ensures ∙ c.if-due-met.true))
+    c.loop-s.v c.visit_all-v.result c.loop-d.v (by_start c.args.due (c.args.need - 1) (position c.args.b.now) c.args.dice.now.left (c.loop-d.d - 1) 25) k
+    (fits_on c.args.due (position c.args.b.now) (position c.in-Some-make.after) c.args.dice.now.left (c.loop-s.s - 1) (c.loop-d.d - 1) c.args.b.now.long c.in-Some.ensures.has m.0 m.1 (sym c.due_met.ensures ∙ c.if-due_met.true))
     behind c.loop-s.invariant
 
 pub loop-s-preserved : goal.loop-s-preserved
@@ -52,7 +52,7 @@ loop-s-preserved g t c =
     let m = c.in-Some-make.ensures in
     start_off g.V.Visit.step (moves_of c.args.made.now) c.args.due (c.args.need - 1) (position c.args.b.now) c.args.dice.now.left (c.loop-d.d - 1) (c.loop-s.s - 1)
     c.loop-s.v c.loop-d.v (by_start c.args.due (c.args.need - 1) (position c.args.b.now) c.args.dice.now.left (c.loop-d.d - 1) 25) k
-    (fits_unmet c.args.due (position c.args.b.now) (position c.in-Some-make.after) c.args.dice.now.left (c.loop-s.s - 1) (c.loop-d.d - 1) m.1 (sym c.due-met.ensures ∙ c.if-due-met.false))
+    (fits_unmet c.args.due (position c.args.b.now) (position c.in-Some-make.after) c.args.dice.now.left (c.loop-s.s - 1) (c.loop-d.d - 1) m.1 (sym c.due_met.ensures ∙ c.if-due_met.false))
     c.loop-s.invariant
 
 pub returns : goal.returns

@@ -4,8 +4,8 @@ use Rattle.listing.specs.Moves.{moves_of}
 use Rattle.listing.proofs.Showing.{Leads, by_start, rows_by_die}
 use Rattle.listing.proofs.visit.+visit_all.Given as goal
 
-abbrev pub decreases-visit-all : goal.decreases-visit-all
-decreases-visit-all g l = l.need
+abbrev pub decreases-visit_all : goal.decreases-visit_all
+decreases-visit_all g l = l.need
 
 abbrev pub invariant-loop-s : goal.invariant-loop-s
 invariant-loop-s g l =

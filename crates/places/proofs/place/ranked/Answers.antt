@@ -8,12 +8,12 @@ pub returns-then-here-left : goal.returns-then-here-left
 returns-then-here-left c _ =
     too_many c.args.n c.args.side.now c.loop-p.p c.loop-p.left c.loop-p.place c.loop-p.invariant (omega arith) (omega arith)
 
-pub overflow-sub-place : goal.overflow-sub-place
-overflow-sub-place c =
+pub overflow_sub-place : goal.overflow_sub-place
+overflow_sub-place c =
     omega (
       arith,
-      c.ways-of.ensures.is,
-      c.ways-of-in-loop-p.ensures.is,
+      c.ways_of.ensures.is,
+      c.ways_of-in-loop-p.ensures.is,
       fewer (c.loop-p.p - 1) c.loop-p.left (c.loop-p.left - on c.args.side.now (c.loop-p.p - 1)) (omega arith) (omega arith),
     )
 

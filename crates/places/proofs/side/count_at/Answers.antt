@@ -2,9 +2,9 @@ use Rattle.std.proofs.Common.{◌≡◌, ◌+◌, ◌-◌, arith}
 use Rattle.places.proofs.Table.{fewer, ways-step, ways_none}
 use Rattle.places.proofs.side.count_at.Goals as goal
 
-pub overflow-sub-all : goal.overflow-sub-all
-overflow-sub-all c =
-    omega (arith, c.ways-of-all.ensures.is, c.ways-of.ensures.is, fewer c.args.p c.args.left (c.args.left - (c.loop-c.c + 1)) (omega arith) (omega arith))
+pub overflow_sub-all : goal.overflow_sub-all
+overflow_sub-all c =
+    omega (arith, c.ways_of-all.ensures.is, c.ways_of.ensures.is, fewer c.args.p c.args.left (c.args.left - (c.loop-c.c + 1)) (omega arith) (omega arith))
 
 pub returns-then-before-all : goal.returns-then-before-all
 returns-then-before-all c =
@@ -13,7 +13,7 @@ returns-then-before-all c =
     record {
       few = omega arith;
       from = c.loop-c.invariant;
-      to = omega (arith, c.ways-of-all.ensures.is, c.ways-of.ensures.is, rw z at w);
+      to = omega (arith, c.ways_of-all.ensures.is, c.ways_of.ensures.is, rw z at w);
     }
 
 pub returns : goal.returns

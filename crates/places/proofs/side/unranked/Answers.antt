@@ -6,22 +6,22 @@ use Rattle.places.proofs.side.unranked.Goals as goal
 pub loop-p-init : goal.loop-p-init
 loop-p-init c = finding_none c.args.n c.args.place (omega (arith, c.requires.within, all_ways c.args.n))
 
-pub overflow-sub-before : goal.overflow-sub-before
-overflow-sub-before c =
+pub overflow_sub-before : goal.overflow_sub-before
+overflow_sub-before c =
     omega (
       arith,
-      c.ways-of.ensures.is,
-      c.ways-of-in-loop-p.ensures.is,
-      fewer (c.loop-p.p - 1) c.loop-p.left (c.loop-p.left - c.count-at-here.result) (omega arith) (omega arith),
+      c.ways_of.ensures.is,
+      c.ways_of-in-loop-p.ensures.is,
+      fewer (c.loop-p.p - 1) c.loop-p.left (c.loop-p.left - c.count_at-here.result) (omega arith) (omega arith),
     )
 
 pub loop-p-preserved : goal.loop-p-preserved
 loop-p-preserved c =
     finding_more c.args.n c.args.place c.loop-p.p c.loop-p.left c.loop-p.before c.loop-p.side c.loop-p.invariant
-    c.count-at-here.result c.ways-of.result c.ways-of-in-loop-p.result
-    (omega arith) c.loop-p.auto.p c.count-at-here.ensures.few c.ways-of.ensures.is c.ways-of-in-loop-p.ensures.is
-    (omega (arith, c.count-at-here.ensures.from, c.ways-of.ensures.is, c.ways-of-in-loop-p.ensures.is))
-    (omega (arith, c.count-at-here.ensures.to, c.ways-of.ensures.is, c.ways-of-in-loop-p.ensures.is))
+    c.count_at-here.result c.ways_of.result c.ways_of-in-loop-p.result
+    (omega arith) c.loop-p.auto.p c.count_at-here.ensures.few c.ways_of.ensures.is c.ways_of-in-loop-p.ensures.is
+    (omega (arith, c.count_at-here.ensures.from, c.ways_of.ensures.is, c.ways_of-in-loop-p.ensures.is))
+    (omega (arith, c.count_at-here.ensures.to, c.ways_of.ensures.is, c.ways_of-in-loop-p.ensures.is))
 
 pub returns : goal.returns
 returns c =

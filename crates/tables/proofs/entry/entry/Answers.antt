@@ -5,14 +5,14 @@ use Rattle.tables.specs.Sums.{entry_length, entry_value}
 use Rattle.tables.proofs.Entering.{sound-entry}
 use Rattle.tables.proofs.entry.entry.Goals as goal
 
-pub returns-then-length-reach-of : goal.returns-then-length-reach-of
+pub returns-then-length-reach_of : goal.returns-then-length-reach_of
 unfolding entry_value
-returns-then-length-reach-of g c =
+returns-then-length-reach_of g c =
     let lists = place_lists c.args.turns.now in
     let n = entry_length c.args.size c.args.lengths.now c.args.b lists in
-    let past = lt-leb n g.K.Chance.reach (omega (arith, c.length-of-length.ensures, c.reach-of.ensures, c.if-length-reach-of.true)) in
-    let value : ◌≡◌ {A = ℕ × g.row.K.Denot} (c.length-of-length.result, c.lost.result) (n, entry_value g.K.Chance c.args.size c.args.rows.now c.args.b n lists) =
-    rw (c.length-of-length.ensures, c.lost.ensures, past)
+    let past = lt-leb n g.K.Chance.reach (omega (arith, c.length_of-length.ensures, c.reach_of.ensures, c.if-length-reach_of.true)) in
+    let value : ◌≡◌ {A = ℕ × g.row.K.Denot} (c.length_of-length.result, c.lost.result) (n, entry_value g.K.Chance c.args.size c.args.rows.now c.args.b n lists) =
+    rw (c.length_of-length.ensures, c.lost.ensures, past)
     in
     record { value = value; sound = sound-entry g.K.Chance c.args.size c.args.b lists c.args.lengths.now c.args.rows.now _ value }
 
@@ -21,8 +21,8 @@ unfolding entry_value
 returns g c =
     let lists = place_lists c.args.turns.now in
     let n = entry_length c.args.size c.args.lengths.now c.args.b lists in
-    let within = le-leb n g.K.Chance.reach (omega (arith, c.length-of-length.ensures, c.reach-of.ensures, c.if-length-reach-of.false)) in
-    let value : ◌≡◌ {A = ℕ × g.row.K.Denot} (c.length-of-length.result, c.mean-of-rolls.result) (n, entry_value g.K.Chance c.args.size c.args.rows.now c.args.b n lists) =
-    rw (c.length-of-length.ensures, c.mean-of-rolls.ensures, within)
+    let within = le-leb n g.K.Chance.reach (omega (arith, c.length_of-length.ensures, c.reach_of.ensures, c.if-length-reach_of.false)) in
+    let value : ◌≡◌ {A = ℕ × g.row.K.Denot} (c.length_of-length.result, c.mean_of_rolls.result) (n, entry_value g.K.Chance c.args.size c.args.rows.now c.args.b n lists) =
+    rw (c.length_of-length.ensures, c.mean_of_rolls.ensures, within)
     in
     record { value = value; sound = sound-entry g.K.Chance c.args.size c.args.b lists c.args.lengths.now c.args.rows.now _ value }

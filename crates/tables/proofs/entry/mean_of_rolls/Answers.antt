@@ -7,7 +7,7 @@ use Rattle.tables.proofs.entry.mean_of_rolls.Goals as goal
 
 pub loop-i-preserved : goal.loop-i-preserved
 loop-i-preserved g c =
-    rw (c.add.ensures.left, c.weight-of.ensures, c.roll-at.ensures, c.best-over-best.ensures, c.of-roll.ensures)
+    rw (c.add.ensures.left, c.weight_of.ensures, c.roll_at.ensures, c.best_over-best.ensures, c.of_roll.ensures)
     (sum_more g.K.Chance c.args.size c.args.rows.now c.args.b rolls (place_lists c.args.turns.now) c.loop-i.i c.loop-i.sum _
     (omega (arith, rolls_long)) (omega (arith, lists_long c.args.turns.now)) c.loop-i.invariant)
 

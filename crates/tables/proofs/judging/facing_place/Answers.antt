@@ -11,7 +11,7 @@ pub returns : goal.returns
 returns c =
     let b = c.args.b.now in
     let own = c.in-Some.ensures in
-    let other = c.in-Some-place-of.ensures in (
+    let other = c.in-Some-place_of.ensures in (
       record {
         ending = record {
           own = own.1.home;

@@ -21,9 +21,9 @@ returns-in-Ok g c =
     let k = g.K.Chance in
     let p = position c.args.b.now in
     let r = c.args.roll in
-    let roll = c.in-default.ensures.0 in
+    let roll = c.in_default.ensures.0 in
     let size = c.in-Some.ensures in
-    let face = c.in-Some-facing-place.ensures in
+    let face = c.in-Some-facing_place.ensures in
     let home : (t : List Move) → In t (listed p r.0 r.1) → HomeFor c.args.n (played p t).own =
     λ t i. turn_for c.args.n p r.0 r.1 t face.0 roll ((listed_is p r.0 r.1 (sound p face.0.ending)).only t i)
     in
@@ -34,8 +34,8 @@ returns-in-Ok g c =
       square = (let e = c.square.ensures.0 c.if-not-square.false in rw size.1 at e);
       ending = face.0;
       best = best
-          ∙ ap (best_from_first k) (map_twice (value_after k c.in-Some.size c.args.rows.now c.in-Some-facing-place.other) (λ t. place c.args.n (played p t).own) (listed p r.0 r.1))
-          ∙ ap (λ s. best_place k s c.args.rows.now c.in-Some-facing-place.other (places_led_to c.args.n p r)) size.1
+          ∙ ap (best_from_first k) (map_twice (value_after k c.in-Some.size c.args.rows.now c.in-Some-facing_place.other) (λ t. place c.args.n (played p t).own) (listed p r.0 r.1))
+          ∙ ap (λ s. best_place k s c.args.rows.now c.in-Some-facing_place.other (places_led_to c.args.n p r)) size.1
           ∙ ap (λ o. best_place k (places_of c.args.n) c.args.rows.now o (places_led_to c.args.n p r)) face.1;
     } in
     record { answer = answer; sound = sound-best k c.args.n p r c.args.rows.now c.in-Ok.all.best face.0 roll answer.best }

@@ -11,13 +11,13 @@ returns-then-places-eq0 g c = c.lost.ensures ∙ none_taken (best_place g.K.Chan
 pub loop-i-init : goal.loop-i-init
 loop-i-init g c =
     let f = value_after g.K.Chance c.args.size c.args.rows.now c.args.b in
-    rw c.after-place-best.ensures
+    rw c.after_place-best.ensures
     (fold-first f g.K.Chance.better c.args.places.now 0 (best_from_first g.K.Chance) (λ v vs. refl) (omega (arith, c.if-places-eq0.false)))
 
 pub loop-i-preserved : goal.loop-i-preserved
 loop-i-preserved g c =
     let f = value_after g.K.Chance c.args.size c.args.rows.now c.args.b in
-    rw (c.better-best.ensures, c.after-place.ensures)
+    rw (c.better-best.ensures, c.after_place.ensures)
     (fold_more f g.K.Chance.better c.args.places.now c.loop-i.i 0 c.loop-i.best _ (omega arith) c.loop-i.invariant)
 
 pub returns : goal.returns

@@ -8,7 +8,7 @@ use Rattle.tables.proofs.turning.turn_places.Goals as goal
 
 pub loop-i-preserved : goal.loop-i-preserved
 loop-i-preserved c =
-    let made = rw (c.mirrored-b.ensures, c.roll-at.ensures) at c.in-Some-roll-places.ensures in (
+    let made = rw (c.mirrored-b.ensures, c.roll_at.ensures) at c.in-Some-roll_places.ensures in (
       omega (arith, c.in-Ok.ensures.len, c.loop-i.invariant.0),
       ap (map vec_items) c.in-Ok.ensures.items
           ∙ made_more vec_items (places_led_to c.args.n (facing c.args.side.now)) (vec_items c.loop-i.lists) _ rolls c.loop-i.i (0, 0) (omega (arith, rolls_long)) c.loop-i.invariant.1 made,

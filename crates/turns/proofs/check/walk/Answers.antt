@@ -5,17 +5,17 @@ use Rattle.turns.proofs.check.walk.Goals as goal
 
 pub returns-then-s-lt1 : goal.returns-then-s-lt1
 returns-then-s-lt1 c =
-    rw c.at-move.ensures
+    rw c.at_move.ensures
     (not_at_hand _ _ _ _ c.loop-i-test.true _ _ c.loop-i.invariant (λ h. elim c.then-s-lt1.either [ inl k ↦ omega arith | inr k ↦ omega arith ]))
 
-pub returns-in-default : goal.returns-in-default
-returns-in-default c =
-    rw c.at-move-in-default.ensures (not_at_hand _ _ _ _ c.loop-i-test.true _ _ c.loop-i.invariant (λ h. omega (arith, h.2, c.in-default.ensures)))
+pub returns-in_default : goal.returns-in_default
+returns-in_default c =
+    rw c.at_move-in_default.ensures (not_at_hand _ _ _ _ c.loop-i-test.true _ _ c.loop-i.invariant (λ h. omega (arith, h.2, c.in_default.ensures)))
 
-pub returns-in-default-make : goal.returns-in-default-make
-returns-in-default-make c =
-    rw c.at-move-in-default-make.ensures
-    (not_legal _ _ _ _ c.loop-i-test.true _ _ c.loop-i.invariant (c.if-s-lt1.false, c.if-s-gt25.false, c.in-Some.ensures.has) c.in-default-make.ensures)
+pub returns-in_default-make : goal.returns-in_default-make
+returns-in_default-make c =
+    rw c.at_move-in_default-make.ensures
+    (not_legal _ _ _ _ c.loop-i-test.true _ _ c.loop-i.invariant (c.if-s-lt1.false, c.if-s-gt25.false, c.in-Some.ensures.has) c.in_default-make.ensures)
 
 pub loop-i-preserved : goal.loop-i-preserved
 loop-i-preserved c =

@@ -3,8 +3,8 @@ use Rattle.fixed.specs.Stays.{mean_sound}
 use Rattle.fixed.specs.Kept.{same_range, closed_is}
 use Rattle.fixed.proofs.range.kind.mean.Goals as goal
 
-pub invariant-of-result : goal.invariant-of-result
-invariant-of-result c = (rw (c.mean-down.ensures, c.mean-up.ensures) (mean_sound c.args.sum.now c.requires), tt)
+pub invariant_of-result : goal.invariant_of-result
+invariant_of-result c = (rw (c.mean_down.ensures, c.mean_up.ensures) (mean_sound c.args.sum.now c.requires), tt)
 
 pub returns : goal.returns
-returns c = same_range _ _ c.mean-down.ensures c.mean-up.ensures refl ∙ sym (closed_is _ c.requires)
+returns c = same_range _ _ c.mean_down.ensures c.mean_up.ensures refl ∙ sym (closed_is _ c.requires)

@@ -8,7 +8,7 @@ pub returns-then-i-len : goal.returns-then-i-len
 returns-then-i-len c =
     let lists = c.args.self.now.lists in
     let within : c.args.i < length (vec_items lists) = omega (arith, lists.ok.0, c.len.ensures, c.if-i-len.true) in
-    c.as-slice.ensures.value ∙ ap vec_items c.index.ensures ∙ sym (get_or-map vec_items (vec_items lists) c.args.i _ [] within)
+    c.as_slice.ensures.value ∙ ap vec_items c.index.ensures ∙ sym (get_or-map vec_items (vec_items lists) c.args.i _ [] within)
 
 pub returns-else-i-len : goal.returns-else-i-len
 returns-else-i-len c =

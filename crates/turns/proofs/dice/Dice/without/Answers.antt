@@ -18,11 +18,11 @@ returns-then-d-gt6 c =
       | then-d-gt6-via-else-d-gt6+then-self-d-eq0 w ↦ w.if-self-d-eq0.true
     ]
 
-pub overflow-sub-result : goal.overflow-sub-result
-overflow-sub-result c = omega (arith, one_less c.args.self.now c.args.d c.if-d-gt6.false c.if-self-d-eq0.false)
+pub overflow_sub-result : goal.overflow_sub-result
+overflow_sub-result c = omega (arith, one_less c.args.self.now c.args.d c.if-d-gt6.false c.if-self-d-eq0.false)
 
-pub invariant-of-result : goal.invariant-of-result
-invariant-of-result c = (
+pub invariant_of-result : goal.invariant_of-result
+invariant_of-result c = (
   length-set _ _ _ ∙ c.args.self.now.long,
   (
     omega (arith, one_less c.args.self.now c.args.d c.if-d-gt6.false c.if-self-d-eq0.false),

@@ -2,8 +2,8 @@ use Rattle.exact.specs.Stays.{better_sound}
 use Rattle.exact.specs.Kept.{same_number}
 use Rattle.exact.proofs.number.kind.ExactChance.better.Goals as goal
 
-pub invariant-of-result : goal.invariant-of-result
-invariant-of-result c = (rw (c.greater.ensures, c.older.ensures) (better_sound c.args.self c.args.other), tt)
+pub invariant_of-result : goal.invariant_of-result
+invariant_of-result c = (rw (c.greater.ensures, c.older.ensures) (better_sound c.args.self c.args.other), tt)
 
 pub returns : goal.returns
 returns c = same_number _ _ c.greater.ensures c.older.ensures

@@ -3,8 +3,8 @@ use Rattle.exact.specs.Stays.{turned_sound}
 use Rattle.exact.specs.Kept.{same_number}
 use Rattle.exact.proofs.number.kind.ExactChance.turned.Goals as goal
 
-pub invariant-of-result : goal.invariant-of-result
-invariant-of-result c = (rw c.above.ensures (turned_sound c.args.self), tt)
+pub invariant_of-result : goal.invariant_of-result
+invariant_of-result c = (rw c.above.ensures (turned_sound c.args.self), tt)
 
 pub returns : goal.returns
 returns c = same_number _ _ c.above.ensures refl
