@@ -45,7 +45,7 @@ fn due_met(after: &Board, due: u8, d: u8) -> bool
 // Shows each turn of so many moves behind those made before, in listing order; where a die is due, each move meets it.
 fn visit_all<V: Visit>(b: &Board, dice: &Dice, due: u8, need: usize, made: &Turn, v: V) -> V
     requires { made.now.count + need ≤ 4 }
-    ensures { Shown step (moves_of made.now) (position b.now) v (listedFrom due need (position b.now) dice.now.left) result }
+    ensures { Shown V.step (moves_of made.now) (position b.now) v (listedFrom due need (position b.now) dice.now.left) result }
 {
     if need == 0 || finished(b) {
         return v.visit(made, b);
@@ -84,7 +84,7 @@ fn due_die(b: &Board, x: u8, y: u8, need: usize) -> u8
 
 // Shows each allowed turn of the roll, in listing order; refused, with what was handed in, where a die is outside 1 to 6.
 pub fn visit_turns<V: Visit>(b: &Board, roll: (u8, u8), v: V) -> Result<V, (Refusal, V)>
-    ensures { MatchResult result (λ w. Roll roll.0 roll.1 × Shown step [] (position b.now) v (listed (position b.now) roll.0 roll.1) w) (λ e. (Roll roll.0 roll.1 → ⊥) × (e.0 ≡ plain DieOutOfRange) × (e.1 ≡ v)) }
+    ensures { MatchResult result (λ w. Roll roll.0 roll.1 × Shown V.step [] (position b.now) v (listed (position b.now) roll.0 roll.1) w) (λ e. (Roll roll.0 roll.1 → ⊥) × (e.0 ≡ plain DieOutOfRange) × (e.1 ≡ v)) }
 {
     match dice_of(roll) {
         Err(refusal) => Err((refusal, v)),

@@ -1,9 +1,8 @@
-ghost use Rattle.std.specs.Prelude.{◌≡◌, ◌<◌};
+ghost use Rattle.std.specs.Prelude.{refl, ◌≡◌, ◌<◌};
 ghost use Rattle.chance.specs.Sums.{Fits};
 ghost use Rattle.exact.specs.Sound.{exact_scale, exact_reach};
 ghost use Rattle.exact.specs.Number.{exact_lost, exact_won, exact_turned, exact_better, exact_empty, exact_added, exact_closed, ExactHeld, exact_written, exact_read};
 ghost use Rattle.exact.specs.Kept.{exact_rules};
-ghost use Rattle.std.proofs.Common.{rules, arith};
 
 use super::{Exact, ExactRow, ExactSum};
 use crate::units::{GRAIN, REACH, SCALE, above, greater, sound, weighted};
@@ -90,11 +89,11 @@ impl Chance for Exact {
 
     ghost rules = { exact_rules };
 
-    ghost scale_is = { first_of (Prim.search rules, Prim.grind (arith, Self.row.coded.inj)) };
+    ghost scale_is = { refl };
 
-    ghost grain_is = { first_of (Prim.search rules, Prim.grind (arith, Self.row.coded.inj)) };
+    ghost grain_is = { refl };
 
-    ghost reach_is = { first_of (Prim.search rules, Prim.grind (arith, Self.row.coded.inj)) };
+    ghost reach_is = { refl };
 
     fn ends(self) -> (u64, u64, u64) {
         (self.number, self.number, self.age as u64)

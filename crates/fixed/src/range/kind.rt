@@ -1,9 +1,8 @@
-ghost use Rattle.std.specs.Prelude.{◌≡◌, ◌<◌, ◌≤◌};
+ghost use Rattle.std.specs.Prelude.{refl, ◌≡◌, ◌<◌, ◌≤◌};
 ghost use Rattle.chance.specs.Sums.{Fits};
 ghost use Rattle.fixed.specs.Sound.{fixed_scale, fixed_reach};
 ghost use Rattle.fixed.specs.Range.{fixed_lost, fixed_won, fixed_turned, fixed_better, fixed_empty, fixed_added, fixed_closed, FixedHeld, fixed_written, fixed_read};
 ghost use Rattle.fixed.specs.Kept.{fixed_rules};
-ghost use Rattle.std.proofs.Common.{rules, arith};
 
 use super::{Fixed, FixedRow, FixedSum};
 use crate::ends::{
@@ -108,11 +107,11 @@ impl Chance for Fixed {
 
     ghost rules = { fixed_rules };
 
-    ghost scale_is = { first_of (Prim.search rules, Prim.grind (arith, Self.row.coded.inj)) };
+    ghost scale_is = { refl };
 
-    ghost grain_is = { first_of (Prim.search rules, Prim.grind (arith, Self.row.coded.inj)) };
+    ghost grain_is = { refl };
 
-    ghost reach_is = { first_of (Prim.search rules, Prim.grind (arith, Self.row.coded.inj)) };
+    ghost reach_is = { refl };
 
     fn ends(self) -> (u64, u64, u64) {
         (self.lower as u64, self.upper as u64, self.age as u64)

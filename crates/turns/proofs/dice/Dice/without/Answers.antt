@@ -22,13 +22,11 @@ pub overflow_sub-result : goal.overflow_sub-result
 overflow_sub-result c = omega (arith, one_less c.args.self.now c.args.d c.if-d-gt6.false c.if-self-d-eq0.false)
 
 pub invariant_of-result : goal.invariant_of-result
-invariant_of-result c = (
-  length-set _ _ _ ∙ c.args.self.now.long,
-  (
-    omega (arith, one_less c.args.self.now c.args.d c.if-d-gt6.false c.if-self-d-eq0.false),
-    (omega (arith, c.args.self.now.few), tt),
-  ),
-)
+invariant_of-result c = record {
+  long = length-set _ _ _ ∙ c.args.self.now.long;
+  all = omega (arith, one_less c.args.self.now c.args.d c.if-d-gt6.false c.if-self-d-eq0.false);
+  few = omega (arith, c.args.self.now.few);
+}
 
 pub returns : goal.returns
 returns c = record { has = omega (arith, c.if-self-d-eq0.false); left = refl; fewer = omega (arith, one_less c.args.self.now c.args.d c.if-d-gt6.false c.if-self-d-eq0.false) }
