@@ -11,6 +11,7 @@ use anyhow::anyhow;
 use help::HELP;
 use session::Session;
 use std::io::{Read, Write};
+use std::process::ExitCode;
 use std::{env, fs};
 
 // The file that the arguments name, or none for standard input.
@@ -72,12 +73,13 @@ fn run(rt: &HostRuntime) -> anyhow::Result<()> {
     Ok(())
 }
 
-fn main(rt: HostRuntime) -> anyhow::Result<()> {
+fn main(rt: HostRuntime) -> ExitCode {
     match run(&rt) {
-        Ok(()) => Ok(()),
+        Ok(()) => ExitCode::SUCCESS,
         Err(error) => {
-            eprintln!(rt; "turnlist: {error}")?;
-            Err(error)
+            // Where even standard error takes nothing, the status alone is left to tell.
+            let _ = eprintln!(rt; "turnlist: {error}");
+            ExitCode::FAILURE
         }
     }
 }

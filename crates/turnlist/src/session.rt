@@ -6,8 +6,7 @@ use listing::turn::Turn;
 use replies::reply::Reply;
 use replies::replying::reply;
 use settings::setting::Setting;
-use std::alloc::Global;
-use std::fmt;
+use std::alloc::{AllocError, Global};
 use std::fmt::Write;
 
 // The board and player due, what is to be printed, and whether a line had no known form.
@@ -19,7 +18,7 @@ pub struct Session {
 }
 
 // A roll's allowed turns: how many, and each on a line.
-fn listed_lines(out: &mut String, roll: (u8, u8), turns: &[Turn]) -> fmt::Result {
+fn listed_lines(out: &mut String, roll: (u8, u8), turns: &[Turn]) -> Result<(), AllocError> {
     let (a, b) = roll;
     let count = turns.len();
     writeln!(out, "L {a}{b} {count}")?;
@@ -30,7 +29,7 @@ fn listed_lines(out: &mut String, roll: (u8, u8), turns: &[Turn]) -> fmt::Result
 }
 
 // A turn that was made: each move on a line.
-fn made_lines(out: &mut String, roll: (u8, u8), moves: &[(u8, u8)]) -> fmt::Result {
+fn made_lines(out: &mut String, roll: (u8, u8), moves: &[(u8, u8)]) -> Result<(), AllocError> {
     let (a, b) = roll;
     writeln!(out, "P {a}{b}")?;
     for m in moves {
@@ -49,7 +48,7 @@ impl Session {
     }
 
     // Answers the nth line.
-    pub fn answer(&mut self, heap: Global, line: &[u8], n: usize) -> fmt::Result {
+    pub fn answer(&mut self, heap: Global, line: &[u8], n: usize) -> Result<(), AllocError> {
         let Some(command) = read_command(line) else {
             self.faulty = true;
             return unknown_line(&mut self.out, line, n);
@@ -69,7 +68,7 @@ impl Session {
             }
             Ok(Reply::Refused(refusal)) => refusal_line(&mut self.out, refusal),
             Ok(Reply::Nothing) => Ok(()),
-            Err(_) => Err(fmt::Error),
+            Err(error) => Err(error),
         }
     }
 }

@@ -2,11 +2,11 @@
 use board::player::Player;
 use refusals::refusal::Refusal;
 use settings::setting::Setting;
-use std::fmt;
+use std::alloc::AllocError;
 use std::fmt::Write;
 
 // The moves of a listed turn, or a dash where it has none.
-pub fn turn_line(out: &mut String, moves: &[(u8, u8)]) -> fmt::Result {
+pub fn turn_line(out: &mut String, moves: &[(u8, u8)]) -> Result<(), AllocError> {
     if moves.len() == 0 {
         return writeln!(out, "-");
     }
@@ -19,7 +19,7 @@ pub fn turn_line(out: &mut String, moves: &[(u8, u8)]) -> fmt::Result {
 }
 
 // A move that was made, with its target.
-pub fn made_line(out: &mut String, s: u8, d: u8) -> fmt::Result {
+pub fn made_line(out: &mut String, s: u8, d: u8) -> Result<(), AllocError> {
     if s > d {
         let t = s - d;
         writeln!(out, " {s:02} {d} {t:02}")
@@ -29,7 +29,7 @@ pub fn made_line(out: &mut String, s: u8, d: u8) -> fmt::Result {
 }
 
 // The counts on points 1 to 25 as hex digits.
-fn side_digits(out: &mut String, side: &[u8; 26]) -> fmt::Result {
+fn side_digits(out: &mut String, side: &[u8; 26]) -> Result<(), AllocError> {
     for p in 1..26 {
         let n = side[p];
         write!(out, "{n:x}")?;
@@ -38,7 +38,7 @@ fn side_digits(out: &mut String, side: &[u8; 26]) -> fmt::Result {
 }
 
 // The board and the player due.
-pub fn setting_line(out: &mut String, setting: &Setting) -> fmt::Result {
+pub fn setting_line(out: &mut String, setting: &Setting) -> Result<(), AllocError> {
     let letter = match setting.due {
         Player::White => "W",
         Player::Black => "B",
@@ -51,13 +51,13 @@ pub fn setting_line(out: &mut String, setting: &Setting) -> fmt::Result {
 }
 
 // A refusal's six fields.
-pub fn refusal_line(out: &mut String, refusal: Refusal) -> fmt::Result {
+pub fn refusal_line(out: &mut String, refusal: Refusal) -> Result<(), AllocError> {
     let (layer, number, game, turn, nth, place) = refusal.fields();
     writeln!(out, "F {layer} {number} {game} {turn} {nth} {place}")
 }
 
 // A line of no known form: its number, and what was expected of a line that begins so.
-pub fn unknown_line(out: &mut String, line: &[u8], n: usize) -> fmt::Result {
+pub fn unknown_line(out: &mut String, line: &[u8], n: usize) -> Result<(), AllocError> {
     let expected = match line {
         [b'S', ..] => "'S p WHITE BLACK': W or B, and two sides of 25 hex digits 0 to f",
         [b'L', ..] => "'L ab': two digits",
