@@ -1,6 +1,5 @@
 -- An exact reading asks for nothing exactly where the line is empty or a comment.
-use Rattle.std.proofs.Common.{◌≡◌, ℕ, List, [], ◌∷◌, get_or, Some, None, Option, sym, refl, ap, ◌∙◌, arith}
-use Rattle.commands.specs.declared.command.Command.{Command}
+use Rattle.std.proofs.Common.{◌≡◌, ℕ, List, [], ◌∷◌, get_or, Some, None, sym, refl, ap, ◌∙◌, arith}
 use Rattle.commands.specs.declared.command.Command.TheVariants as asked
 use Rattle.commands.specs.Forms.{Form, comment, blank, silent, Fine, text}
 use Rattle.commands.specs.Silence.{Silent, NothingExactly}

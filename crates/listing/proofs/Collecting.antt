@@ -1,5 +1,5 @@
 -- What is collected from a list of turns.
-use Rattle.std.proofs.Common.{◌≡◌, false, List, [], ◌∷◌, ◌++◌, sym, refl, ap, ◌∙◌, append_assoc, append-nil}
+use Rattle.std.proofs.Common.{◌≡◌, false, List, [], ◌∷◌, ◌++◌, sym, ap, ◌∙◌, append_assoc, append-nil}
 use Rattle.board.specs.Position.{Position}
 use Rattle.turns.specs.Runs.{Move}
 use Rattle.listing.specs.declared.collected.Collected.{Collected}

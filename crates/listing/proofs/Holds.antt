@@ -1,8 +1,8 @@
 -- What `turns` has, and in which order.
-use Rattle.std.proofs.Common.{◌≡◌, ℕ, zero, suc, ◌+◌, ◌-◌, ◌<◌, ◌≤◌, Bool, true, false, cond, ◌&&◌, ◌||◌, eqb, ltb, ◌⊎◌, List, [], ◌∷◌, ◌++◌, map, length, sum, sym, refl, ap, ◌∙◌, inl, inr, arith, length-set}
+use Rattle.std.proofs.Common.{◌≡◌, ℕ, zero, suc, ◌-◌, ◌<◌, ◌≤◌, true, cond, ◌&&◌, ◌||◌, eqb, ltb, ◌⊎◌, List, [], ◌∷◌, map, length, refl, ◌∙◌, inl, inr, arith, length-set}
 use Rattle.std.proofs.lemmas.List.{get_or-set_other}
 use Rattle.std.proofs.lemmas.List.Sums.{get_or-le-sum_by}
-use Rattle.std.proofs.lemmas.Bool.{cases_lt, cases_Bool, and_parts, and_from, or_cases, or_left, or_right, eqb-true, eq-eqb, eqb-false, ltb-true, lt-ltb, cond-true, cond-false}
+use Rattle.std.proofs.lemmas.Bool.{cases_Bool, and_parts, and_from, or_cases, or_left, or_right, eqb-true, eq-eqb, ltb-true, lt-ltb}
 use Rattle.board.specs.Side.{on, checkers, less}
 use Rattle.board.specs.Position.{Position}
 use Rattle.board.specs.Single.{Legal, moved}
@@ -10,7 +10,7 @@ use Rattle.turns.specs.Runs.{Move, Run, played}
 use Rattle.board.proofs.Sides.{less-sum, shifted_complete}
 use Rattle.listing.specs.Order.{may, off, down, meets, fits, turns}
 use Rattle.listing.specs.Laws.{Sound}
-use Rattle.listing.specs.Listing.{In, Earlier, Ordered}
+use Rattle.listing.specs.Listing.{In, Ordered}
 use Rattle.listing.proofs.Test.{decides}
 use Rattle.listing.proofs.In.{in_map, map_in, in_cond, in_down, down_in, ordered-down, ordered-map, ordered-cond}
 

@@ -1,9 +1,9 @@
 -- `listed` is the listing.
-use Rattle.std.proofs.Common.{◌≡◌, ℕ, zero, suc, ◌+◌, ◌-◌, ◌<◌, ◌≤◌, max, Bool, true, false, cond, not, ◌&&◌, eqb, ltb, ◌⊎◌, List, [], ◌∷◌, map, length, sum, sym, refl, ap, ◌∙◌, subst, inl, inr, arith}
-use Rattle.std.proofs.lemmas.Bool.{cases_lt, cases_Bool, and_parts, and_from, and_cases, eqb-true, eq-eqb, eqb-false, ne_eqb, ltb-true, ltb-false, lt-ltb, cond-true, cond-false, not_from_false, not_from_true, false≢true}
-use Rattle.board.specs.Side.{on, less}
+use Rattle.std.proofs.Common.{◌≡◌, ℕ, zero, suc, ◌<◌, ◌≤◌, max, Bool, true, false, cond, not, ◌&&◌, eqb, ltb, ◌⊎◌, List, [], ◌∷◌, length, sum, sym, refl, ap, ◌∙◌, subst, inl, inr, arith}
+use Rattle.std.proofs.lemmas.Bool.{cases_lt, cases_Bool, and_parts, and_from, eqb-true, eq-eqb, ne_eqb, ltb-true, lt-ltb, not_from_false, not_from_true, false≢true}
+use Rattle.board.specs.Side.{less}
 use Rattle.board.specs.Position.{Position}
-use Rattle.board.specs.Single.{Legal, moved}
+use Rattle.board.specs.Single.{moved}
 use Rattle.turns.specs.Runs.{Move, Run, Most}
 use Rattle.turns.specs.Roll.{rolled}
 use Rattle.turns.specs.Turns.{Playable}

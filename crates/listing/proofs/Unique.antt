@@ -1,5 +1,5 @@
 -- There is one listing.
-use Rattle.std.proofs.Common.{◌≡◌, ℕ, ◌<◌, ◌⊎◌, List, [], ◌∷◌, sym, refl, ap, inl, inr, arith}
+use Rattle.std.proofs.Common.{◌≡◌, ℕ, List, [], ◌∷◌, sym, refl, inl, inr, arith}
 use Rattle.board.specs.Position.{Position}
 use Rattle.turns.specs.Runs.{Move}
 use Rattle.listing.specs.Listing.{In, Earlier, Ordered, Listing}

@@ -1,17 +1,15 @@
 -- `turns` lists the allowed turns.
-use Rattle.std.proofs.Common.{◌≡◌, ℕ, zero, suc, ◌+◌, ◌-◌, ◌<◌, ◌≤◌, max, Bool, true, false, cond, ◌⊎◌, List, [], ◌∷◌, ◌++◌, map, length, sym, refl, ap, ◌∙◌, inl, inr, arith}
-use Rattle.std.proofs.lemmas.List.{map-append}
-use Rattle.std.proofs.lemmas.Bool.{cases_Bool}
+use Rattle.std.proofs.Common.{◌≡◌, ℕ, ◌≤◌, max, List, [], ◌∷◌, length, sym, refl, ◌∙◌, inl, inr, arith}
 use Rattle.board.specs.Side.{on, checkers}
 use Rattle.board.specs.Position.{Position}
-use Rattle.board.specs.Single.{Legal, moved}
+use Rattle.board.specs.Single.{moved}
 use Rattle.turns.specs.Runs.{Move, Run, Most, played}
 use Rattle.turns.specs.Roll.{rolled}
 use Rattle.turns.specs.Turns.{Allowed, AsMany}
 use Rattle.listing.specs.Order.{turns}
 use Rattle.listing.specs.Showing.{Dues, OneOfTwo}
 use Rattle.listing.specs.Laws.{Sound}
-use Rattle.listing.specs.Listing.{In, Listing}
+use Rattle.listing.specs.Listing.{Listing}
 use Rattle.listing.proofs.Holds.{none_off, Due, Meets, Ends, held, holds, in_order}
 
 pub meets_zero : (b : Position) (t : List Move) → Meets 0 b t

@@ -1,5 +1,5 @@
 -- One checker on 13 with a roll of 6-5.
-use Rattle.std.proofs.Common.{◌≡◌, ℕ, ◌≤◌, List, [], ◌∷◌, length, refl, inl, inr, arith, lit≤}
+use Rattle.std.proofs.Common.{◌≡◌, ◌≤◌, List, [], ◌∷◌, length, refl, inl, inr, arith, lit≤}
 use Rattle.std.proofs.lemmas.Bool.{cases_lt}
 use Rattle.refusals.specs.declared.reason.Reason.TheVariants.{TooFewDice, SmallerDie}
 use Rattle.refusals.specs.Fields.{plain}

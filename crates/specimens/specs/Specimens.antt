@@ -12,7 +12,7 @@ use Rattle.turns.specs.Refused.{Refused}
 use Rattle.endings.specs.Ending.{Ending}
 use Rattle.endings.specs.Length.{length_of}
 use Rattle.endings.specs.Exact.{exact, exact_loss}
-use Rattle.specimens.specs.Cases.{only, also, Verdict, allowed, refused, Specimen, turn, winning, lasting, losing}
+use Rattle.specimens.specs.Cases.{only, also, allowed, refused, Specimen, turn, winning, lasting, losing}
 
 -- what a specimen says, by the rules
 abbrev pub Stands : Specimen → Type 0

@@ -1,5 +1,5 @@
 -- The entry that is reckoned over places is the defined one.
-use Rattle.std.proofs.Common.{◌≡◌, ℕ, suc, ◌*◌, ◌<◌, ◌≤◌, min, true, false, cond, ◌&&◌, ltb, leb, List, [], ◌∷◌, map, fold, sym, refl, ap, ◌∙◌, subst, inl, inr, arith}
+use Rattle.std.proofs.Common.{◌≡◌, ℕ, ◌<◌, ◌≤◌, List, [], ◌∷◌, map, fold, sym, refl, ap, ◌∙◌, subst, inl, inr, arith}
 use Rattle.std.proofs.lemmas.Bool.{cases_lt, le-leb, lt-leb, lt-ltb}
 use Rattle.board.specs.Position.{Position}
 use Rattle.turns.specs.Roll.{Roll}
@@ -14,13 +14,13 @@ use Rattle.endings.specs.Place.{place, places_of}
 use Rattle.endings.proofs.Lengths.{sound}
 use Rattle.endings.proofs.Rolls.{rolls-fine}
 use Rattle.endings.proofs.Short.{length_short}
-use Rattle.values.specs.Best.{after_value, best_from_first, best_value, sum_value}
+use Rattle.values.specs.Best.{best_from_first, best_value, sum_value}
 use Rattle.values.specs.Entry.{value_entry}
 use Rattle.values.specs.Laws.{Reached, Entered, Younger}
 use Rattle.values.proofs.Exact.{length_from}
 use Rattle.values.proofs.Judging.{judged, summed}
 use Rattle.values.proofs.Entries.{best_alike, sum_alike, step, past, entered, others}
-use Rattle.tables.specs.Parts.{value_after, best_place, length_after, most_length}
+use Rattle.tables.specs.Parts.{best_place, most_length}
 use Rattle.tables.specs.Led.{facing, places_led_to}
 use Rattle.tables.specs.Sums.{sum_over, settled, entry_length, entry_value}
 use Rattle.tables.specs.Filled.{tabled, tabled_length, ValuesBelow, Below, EntryOf, SoundEntry, SoundBest}

@@ -1,15 +1,14 @@
 -- Places and positions tell the same values.
-use Rattle.std.proofs.Common.{◌≡◌, ℕ, ◌-◌, ◌<◌, ◌≤◌, true, false, cond, eqb, List, [], ◌∷◌, map, length, sym, refl, ap, ◌∙◌, inl, inr, arith}
+use Rattle.std.proofs.Common.{◌≡◌, ℕ, ◌<◌, true, false, eqb, List, [], ◌∷◌, map, length, refl, ap, ◌∙◌, inl, inr, arith}
 use Rattle.std.proofs.lemmas.List.Sums.{get_or-le-sum_by}
-use Rattle.std.proofs.lemmas.Bool.{cases_Bool, eqb-true, eqb-false, eq-eqb, ne_eqb}
-use Rattle.board.specs.Side.{on, checkers, Complete}
-use Rattle.board.specs.Position.{Position, swapped}
+use Rattle.std.proofs.lemmas.Bool.{cases_Bool, eqb-true, eqb-false, ne_eqb}
+use Rattle.board.specs.Side.{on, checkers}
+use Rattle.board.specs.Position.{Position}
 use Rattle.turns.specs.Roll.{Roll, rolled}
 use Rattle.turns.specs.Runs.{Move, played}
 use Rattle.turns.specs.Turns.{Allowed}
 use Rattle.listing.specs.Listing.{In}
 use Rattle.listing.specs.Order.{off, listed}
-use Rattle.listing.proofs.Listed.{listed_is}
 use Rattle.listing.proofs.Some.{some_allowed}
 use Rattle.chance.specs.declared.kind.Chance.{Ghosts}
 use Rattle.endings.specs.Ending.{Home, HomeFor, Ending, EndingFor}
@@ -21,11 +20,10 @@ use Rattle.endings.proofs.Falls.{turn_for, turn_falls}
 use Rattle.endings.proofs.Leads.{leads}
 use Rattle.endings.proofs.Lengths.{sound}
 use Rattle.endings.proofs.Alike.{own_same, listed_same}
-use Rattle.values.specs.Best.{after_value, best_from_first, best_value}
-use Rattle.tables.specs.Parts.{value_after, best_place, length_after, most_length}
+use Rattle.values.specs.Best.{after_value}
+use Rattle.tables.specs.Parts.{value_after, length_after}
 use Rattle.tables.specs.Led.{facing, places_led_to}
 use Rattle.tables.specs.Filled.{tabled, tabled_length}
-use Rattle.tables.proofs.Visiting.{map_twice}
 
 pub map_same : {X Y : Type 0} (f g : X → Y) (xs : List X) → ((x : X) → In x xs → f x ≡ g x) → map f xs ≡ map g xs
 map_same f g [] e = refl

@@ -1,5 +1,5 @@
 -- The sum over the rolls, taken in one by one, and what closing it leaves.
-use Rattle.std.proofs.Common.{◌≡◌, ℕ, ◌+◌, ◌<◌, ◌≤◌, Bool, true, false, cond, ◌&&◌, ltb, leb, List, [], ◌∷◌, map, length, get_or, drop, Ok, Err, vec_items, Result, sym, refl, ap, ◌∙◌, inl, inr, add-one, arith, drop-cons}
+use Rattle.std.proofs.Common.{◌≡◌, ℕ, ◌+◌, ◌<◌, ◌≤◌, cond, ◌&&◌, ltb, leb, List, [], ◌∷◌, length, get_or, drop, Ok, Err, vec_items, Result, sym, refl, ◌∙◌, inl, inr, add-one, arith, drop-cons}
 use lib.ListN.{length-map}
 use Rattle.std.proofs.lemmas.List.{drop_all}
 use Rattle.std.proofs.lemmas.Bool.{cases_lt, le-leb, lt-leb, lt-ltb, le-ltb}

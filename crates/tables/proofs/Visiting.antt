@@ -1,5 +1,5 @@
 -- The best of the turns that are shown one after another.
-use Rattle.std.proofs.Common.{◌≡◌, ℕ, true, false, List, [], ◌∷◌, map, fold, sym, refl, ap, ◌∙◌, subst, inl, inr}
+use Rattle.std.proofs.Common.{◌≡◌, true, false, List, [], ◌∷◌, map, fold, refl, ap, ◌∙◌, subst, inl, inr}
 use Rattle.board.specs.Position.{Position}
 use Rattle.turns.specs.Runs.{Move, played}
 use Rattle.listing.specs.Listing.{In}

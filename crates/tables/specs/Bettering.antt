@@ -1,5 +1,5 @@
 -- The best of the turns that are shown one after another.
-use Rattle.std.specs.Prelude.{◌≡◌, ℕ, true, cond, List}
+use Rattle.std.specs.Prelude.{◌≡◌, true, cond, List}
 use Rattle.board.specs.Position.{Position}
 use Rattle.turns.specs.Runs.{Move}
 use Rattle.chance.specs.declared.kind.Chance.{Ghosts}

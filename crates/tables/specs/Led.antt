@@ -1,7 +1,6 @@
 -- Where the turns of a side lead.
 use Rattle.std.specs.Prelude.{◌≡◌, ℕ, false, List, [], ◌∷◌, ◌++◌, map, vec_items}
 use Rattle.refusals.specs.declared.reason.Reason.TheVariants.{TableSizeOutOfRange, NotAnEnding}
-use Rattle.refusals.specs.declared.refusal.Refusal.{Refusal}
 use Rattle.refusals.specs.Fields.{plain}
 use Rattle.refusals.specs.Order.{Refuse, Accept}
 use Rattle.board.specs.Position.{Position}

@@ -1,15 +1,12 @@
 -- A turn move by move.
-use Rattle.std.proofs.Common.{◌≡◌, ℕ, suc, ◌+◌, ◌<◌, ◌≤◌, List, [], ◌∷◌, length, get_or, drop, sym, refl, ap, ◌∙◌, inl, inr, add-one, arith, drop-cons}
+use Rattle.std.proofs.Common.{◌≡◌, ℕ, ◌+◌, ◌<◌, List, ◌∷◌, length, get_or, drop, refl, inl, inr, add-one, drop-cons}
 use Rattle.refusals.specs.declared.refusal.Refusal.{Refusal}
 use Rattle.refusals.specs.declared.reason.Reason.TheVariants.{NoSuchStartOrDie, IllegalMove}
 use Rattle.refusals.specs.Fields.{refusal_at_move}
 use Rattle.refusals.specs.Order.{Accept}
-use Rattle.board.specs.declared.board.Board.{Board}
-use Rattle.board.specs.Side.{on, less}
-use Rattle.board.specs.Position.{Position, position}
+use Rattle.board.specs.Side.{less}
+use Rattle.board.specs.Position.{Position}
 use Rattle.board.specs.Single.{Legal, moved}
-use Rattle.turns.specs.declared.dice.Dice.{Dice}
-use Rattle.turns.specs.Using.{Without}
 use Rattle.turns.specs.Runs.{Move, Run, played}
 use Rattle.turns.specs.Refused.{AtHand, MoveByMove}
 

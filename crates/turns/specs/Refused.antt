@@ -9,7 +9,7 @@ use Rattle.board.specs.Position.{Position}
 use Rattle.board.specs.Single.{Legal, moved}
 use Rattle.turns.specs.Roll.{Roll, rolled}
 use Rattle.turns.specs.Runs.{Move, Run}
-use Rattle.turns.specs.Turns.{Finishes, AsMany, Either, Larger}
+use Rattle.turns.specs.Turns.{Finishes, Either, Larger}
 
 -- the start of a move is a point or the bar, and its die is left
 abbrev pub AtHand : List ℕ → Move → Type 0

@@ -1,4 +1,4 @@
-use Rattle.std.proofs.Common.{◌∙◌, arith, rules}
+use Rattle.std.proofs.Common.{◌∙◌, arith}
 use Rattle.board.proofs.Sides.{is_placed}
 use Rattle.board.proofs.side.with_off.Goals as goal
 

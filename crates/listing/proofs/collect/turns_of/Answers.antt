@@ -1,6 +1,5 @@
-use Rattle.std.proofs.Common.{◌≡◌, List, ◌++◌, map, vec_items, sym, ap, ◌∙◌, subst}
+use Rattle.std.proofs.Common.{◌≡◌, ◌++◌, map, vec_items, sym, ap, ◌∙◌, subst}
 use Rattle.board.specs.Position.{position}
-use Rattle.turns.specs.Runs.{Move}
 use Rattle.listing.specs.Listing.{Listing}
 use Rattle.listing.specs.Order.{listed}
 use Rattle.listing.specs.Moves.{moves_of}

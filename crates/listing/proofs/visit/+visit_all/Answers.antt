@@ -1,4 +1,4 @@
-use Rattle.std.proofs.Common.{◌≡◌, ◌-◌, ◌≤◌, sym, ◌∙◌, arith}
+use Rattle.std.proofs.Common.{◌-◌, ◌≤◌, sym, ◌∙◌, arith}
 use Rattle.board.specs.Position.{position}
 use Rattle.listing.specs.Moves.{moves_of}
 use Rattle.listing.proofs.Showing.{by_start, rows_by_die, turns_none, turns-off, one-shown, start_on, start_off, die_on, die_off, all_shown}

@@ -1,4 +1,4 @@
-use Rattle.std.proofs.Common.{◌≡◌, []}
+use Rattle.std.proofs.Common.{◌≡◌}
 use Rattle.board.specs.Position.{position}
 use Rattle.turns.specs.Roll.{rolled}
 use Rattle.listing.specs.Order.{turns, listed}

@@ -1,4 +1,4 @@
-use Rattle.std.proofs.Common.{◌≡◌, [], ◌∙◌, arith}
+use Rattle.std.proofs.Common.{[], arith}
 use Rattle.tables.specs.Parts.{most_length}
 use Rattle.tables.specs.Moving.{place_lists}
 use Rattle.tables.specs.Sums.{entry_length}

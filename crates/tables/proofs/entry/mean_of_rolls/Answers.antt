@@ -1,5 +1,5 @@
-use Rattle.std.proofs.Common.{◌≡◌, ap, ◌∙◌, arith}
-use Rattle.endings.specs.Rolls.{rolls, weight}
+use Rattle.std.proofs.Common.{ap, ◌∙◌, arith}
+use Rattle.endings.specs.Rolls.{rolls}
 use Rattle.tables.specs.Moving.{place_lists}
 use Rattle.tables.specs.Sums.{settled}
 use Rattle.tables.proofs.Summing.{rolls_long, lists_long, sum_more, sum_all, closes_ok, closes_err}

@@ -1,4 +1,4 @@
-use Rattle.std.proofs.Common.{◌≡◌, List, map, refl, ap, ◌∙◌}
+use Rattle.std.proofs.Common.{List, refl, ap, ◌∙◌}
 use Rattle.board.specs.Position.{position}
 use Rattle.turns.specs.Runs.{Move, played}
 use Rattle.listing.specs.Listing.{In}

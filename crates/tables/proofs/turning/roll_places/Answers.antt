@@ -1,4 +1,4 @@
-use Rattle.std.proofs.Common.{◌≡◌, ◌++◌, map, ap, ◌∙◌}
+use Rattle.std.proofs.Common.{◌++◌, ap, ◌∙◌}
 use Rattle.board.specs.Position.{position}
 use Rattle.listing.specs.Order.{listed}
 use Rattle.tables.specs.Led.{places_led_to}

@@ -1,4 +1,4 @@
-use Rattle.std.proofs.Common.{◌≡◌, map, length, take, vec_items, ap, ◌∙◌, arith}
+use Rattle.std.proofs.Common.{map, vec_items, ap, ◌∙◌, arith}
 use Rattle.std.proofs.lemmas.List.{take_all}
 use Rattle.endings.specs.Rolls.{rolls}
 use Rattle.tables.specs.Led.{places_led_to, facing}
