@@ -53,7 +53,7 @@ const CASES: [Case; 20] = [
 
 #[test]
 fn exact_chances(rt: HostRuntime) -> Result<(), Fail> {
-    let table: SmallTable<Exact> = filled::<Exact>(&rt, rt.alloc(), 2)?;
+    let table: SmallTable<Exact> = filled::<Exact>(rt.alloc(), 2)?;
     for case in &CASES {
         let (own, other, length, number, _, _) = *case;
         let got = table.asked(own, other);
@@ -64,7 +64,7 @@ fn exact_chances(rt: HostRuntime) -> Result<(), Fail> {
 
 #[test]
 fn fixed_ranges(rt: HostRuntime) -> Result<(), Fail> {
-    let table: SmallTable<Fixed> = filled::<Fixed>(&rt, rt.alloc(), 2)?;
+    let table: SmallTable<Fixed> = filled::<Fixed>(rt.alloc(), 2)?;
     for case in &CASES {
         let (own, other, length, _, lower, upper) = *case;
         let got = table.asked(own, other);
@@ -76,7 +76,7 @@ fn fixed_ranges(rt: HostRuntime) -> Result<(), Fail> {
 // One checker on each side, in the table for one.
 #[test]
 fn one_checker_each(rt: HostRuntime) -> Result<(), Fail> {
-    let table: SmallTable<Fixed> = filled::<Fixed>(&rt, rt.alloc(), 1)?;
+    let table: SmallTable<Fixed> = filled::<Fixed>(rt.alloc(), 1)?;
     assert!(rt; table.asked((6, 0), (1, 0)) == Some((750000000, 750000000, 2)));
     assert!(rt; table.asked((6, 0), (6, 0)) == Some((812500000, 812500000, 3)));
     assert!(rt; table.asked((3, 0), (6, 0)) == Some((1000000000, 1000000000, 1)));

@@ -24,7 +24,7 @@ fn number(n: u8, own: &[u8; 25], other: &[u8; 25], table: &SmallTable<Fixed>) ->
 
 #[test]
 fn refusals_of_asking(rt: HostRuntime) -> Result<(), Fail> {
-    let table: SmallTable<Fixed> = filled::<Fixed>(&rt, rt.alloc(), 2)?;
+    let table: SmallTable<Fixed> = filled::<Fixed>(rt.alloc(), 2)?;
     assert_eq!(rt; number(0, &counts((1, 0)), &counts((1, 0)), &table), 10);
     assert_eq!(rt; number(7, &counts((1, 0)), &counts((1, 0)), &table), 10);
     assert_eq!(rt; number(3, &counts((1, 0)), &counts((1, 0)), &table), 11);
@@ -37,7 +37,7 @@ fn refusals_of_asking(rt: HostRuntime) -> Result<(), Fail> {
 // 4 and 3 against two on 2 with 2-1, played to two on 2: 80/1296 is given away.
 #[test]
 fn loss_of_a_turn(rt: HostRuntime) -> Result<(), Fail> {
-    let table: SmallTable<Fixed> = filled::<Fixed>(&rt, rt.alloc(), 2)?;
+    let table: SmallTable<Fixed> = filled::<Fixed>(rt.alloc(), 2)?;
     let Ok(board) = set_up(&counts((4, 3)), &counts((2, 2))) else {
         return Err(Fail::new("no board"));
     };

@@ -34,28 +34,20 @@ fn turned_and_better(rt: HostRuntime) {
 }
 
 #[test]
-fn means(rt: HostRuntime) -> Result<(), Fail> {
+fn means() -> Result<(), Fail> {
     let none = Exact::lost();
-    is_value(
-        &rt,
-        mean_of(&[(1, Exact::won()), (35, none)]),
-        (UNIT, UNIT, 1),
-    )?;
-    is_value(&rt, mean_of(&[(36, read(UNIT, 1))]), (UNIT, UNIT, 2))
+    is_value(mean_of(&[(1, Exact::won()), (35, none)]), (UNIT, UNIT, 1))?;
+    is_value(mean_of(&[(36, read(UNIT, 1))]), (UNIT, UNIT, 2))
 }
 
 #[test]
-fn closing_at_the_reach(rt: HostRuntime) -> Result<(), Fail> {
+fn closing_at_the_reach() -> Result<(), Fail> {
     let none = Exact::lost();
     let old = read(1, 11);
-    is_value(&rt, mean_of(&[(1, read(36, 10)), (35, none)]), (1, 1, 11))?;
-    is_refused(&rt, mean_of(&[(1, old), (35, none)]), Reason::SumTooOld)?;
-    is_refused(&rt, mean_of(&[(1, old), (34, none)]), Reason::SumNotFull)?;
-    is_refused(
-        &rt,
-        mean_of(&[(1, old), (0, none)]),
-        Reason::WeightOutOfRange,
-    )
+    is_value(mean_of(&[(1, read(36, 10)), (35, none)]), (1, 1, 11))?;
+    is_refused(mean_of(&[(1, old), (35, none)]), Reason::SumTooOld)?;
+    is_refused(mean_of(&[(1, old), (34, none)]), Reason::SumNotFull)?;
+    is_refused(mean_of(&[(1, old), (0, none)]), Reason::WeightOutOfRange)
 }
 
 #[test]

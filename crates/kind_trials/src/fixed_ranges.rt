@@ -31,34 +31,25 @@ fn turned_and_better(rt: HostRuntime) {
 }
 
 #[test]
-fn rounding_at_the_edges(rt: HostRuntime) -> Result<(), Fail> {
+fn rounding_at_the_edges() -> Result<(), Fail> {
     let one = read(1, 1, 0);
     let none = Fixed::lost();
-    is_value(&rt, mean_of(&[(1, one), (35, none)]), (0, 1, 1))?;
-    is_value(&rt, mean_of(&[(35, one), (1, none)]), (0, 1, 1))?;
-    is_value(&rt, mean_of(&[(36, one)]), (1, 1, 1))?;
+    is_value(mean_of(&[(1, one), (35, none)]), (0, 1, 1))?;
+    is_value(mean_of(&[(35, one), (1, none)]), (0, 1, 1))?;
+    is_value(mean_of(&[(36, one)]), (1, 1, 1))?;
     is_value(
-        &rt,
         mean_of(&[(35, Fixed::won()), (1, none)]),
         (972_222_222, 972_222_223, 1),
     )
 }
 
 #[test]
-fn closing_at_the_reach(rt: HostRuntime) -> Result<(), Fail> {
+fn closing_at_the_reach() -> Result<(), Fail> {
     let old = read(5, 5, 60);
-    is_value(&rt, mean_of(&[(36, read(100, 159, 59))]), (100, 159, 60))?;
-    is_refused(
-        &rt,
-        mean_of(&[(1, old), (35, Fixed::won())]),
-        Reason::SumTooOld,
-    )?;
-    is_refused(&rt, mean_of(&[(35, old)]), Reason::SumNotFull)?;
-    is_refused(
-        &rt,
-        mean_of(&[(35, old), (2, old)]),
-        Reason::WeightOutOfRange,
-    )
+    is_value(mean_of(&[(36, read(100, 159, 59))]), (100, 159, 60))?;
+    is_refused(mean_of(&[(1, old), (35, Fixed::won())]), Reason::SumTooOld)?;
+    is_refused(mean_of(&[(35, old)]), Reason::SumNotFull)?;
+    is_refused(mean_of(&[(35, old), (2, old)]), Reason::WeightOutOfRange)
 }
 
 #[test]
