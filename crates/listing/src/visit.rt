@@ -5,7 +5,7 @@ ghost use Rattle.refusals.specs.Fields.{plain};
 ghost use Rattle.board.specs.Position.{Position, position};
 ghost use Rattle.turns.specs.Roll.{Roll};
 ghost use Rattle.turns.specs.Runs.{Move};
-ghost use Rattle.listing.specs.Order.{turns as listedFrom, listed, off, meets};
+ghost use Rattle.listing.specs.Order.{turns as listed_from, listed, off, meets};
 ghost use Rattle.listing.specs.Moves.{moves_of};
 ghost use Rattle.listing.specs.Showing.{Shown, Dues};
 ghost use Rattle.listing.specs.Laws.{ListingLaws};
@@ -45,7 +45,7 @@ fn due_met(after: &Board, due: u8, d: u8) -> bool
 // Shows each turn of so many moves behind those made before, in listing order; where a die is due, each move meets it.
 fn visit_all<V: Visit>(b: &Board, dice: &Dice, due: u8, need: usize, made: &Turn, v: V) -> V
     requires { made.now.count + need ≤ 4 }
-    ensures { Shown V.step (moves_of made.now) (position b.now) v (listedFrom due need (position b.now) dice.now.left) result }
+    ensures { Shown V.step (moves_of made.now) (position b.now) v (listed_from due need (position b.now) dice.now.left) result }
 {
     if need == 0 || finished(b) {
         return v.visit(made, b);
