@@ -83,7 +83,7 @@ each(3, "a loop over numbers", r"\bfor \w+ in [^{\n]*\.\.[^{\n]*\{|\bwhile\b.*\{
 each(4, "a cast", r"\bas (?:u8|u16|u32|u64|usize)\b")
 each(4, "a number for each variant", r"^\s+\w+::\w+ => \d+,")
 each(4, "printing by hand", r"^(?:pub )?fn \w+\(out: &mut String.*")
-each(4, "a type without Debug or equality", r"#\[derive\((?!.*Debug)[^)]*\)\]\n(?:pub )?(?:struct|enum) \w+")
+each(4, "a type without Debug", r"#\[derive\((?!.*Debug)[^)]*\)\]\n(?:pub )?(?:struct|enum) \w+")
 
 # 5: parameters that travel together through three functions or more, and facts that three require
 def split(params):

@@ -4,3 +4,4 @@ pub mod Position
 pub mod Setup
 pub mod Single
 pub mod Made
+pub mod Moves

@@ -13,7 +13,7 @@ on side p = slice_index side p
 abbrev pub Complete : List ℕ → Type 0
 Complete side = sum side ≡ checkers
 
--- no point from 1 to 24 has checkers of both sides; own point p is the other's 25 - p
+-- the two sides share no point; what one calls p is 25 - p to the other, and the bar is no point
 abbrev pub Apart : List ℕ → List ℕ → Type 0
 Apart own other = (p : ℕ) → (1 ≤ p) × (p ≤ 24) → 0 < on own p → on other (25 - p) ≡ 0
 

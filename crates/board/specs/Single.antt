@@ -5,12 +5,12 @@ use Rattle.board.specs.Position.{Position}
 
 pub record Legal (b : Position) (s d : ℕ) : Type 0 where
   pub die : (1 ≤ d) × (d ≤ 6)
-  -- the side has a checker on s, a point or the bar
+  -- something of one's own stands on s, which is a point or the bar
   pub start : (1 ≤ s) × (s ≤ 25)
   pub has : 0 < on b.own s
   -- a checker on the bar goes first
   pub bar : 0 < on b.own 25 → s ≡ 25
-  -- on a target of 1 or more the other side has at most one checker
+  -- a point that is aimed at is not held: one checker of theirs may be there, two block it
   pub free : d < s → on b.other (25 - (s - d)) ≤ 1
   -- a checker is borne off with none above point 6
   pub home : s ≤ d → NoneAbove b.own 6

@@ -2,6 +2,7 @@
 #![tactic(auto)]
 
 pub mod board;
+pub mod moves;
 pub mod player;
 pub mod setup;
 pub mod side;

@@ -6,7 +6,7 @@ ghost use Rattle.board.specs.Setup.{Rule, placed, start_side};
 ghost use Rattle.refusals.specs.declared.reason.Reason.TheVariants.{BoardRuleBroken};
 
 use crate::board::Board;
-use crate::side::{CHECKERS, apart, total, with_off};
+use crate::side::{apart, with_off};
 use refusals::reason::Reason;
 use refusals::refusal::Refusal;
 
@@ -26,21 +26,15 @@ pub fn start() -> Board
 }
 
 // The board with these counts on points 1 to 25, refused where they break the board's rule.
+// Stays: two sides' counts are two parameters, since they are what a caller has before there is a board.
 pub fn set_up(own: &[u8; 25], other: &[u8; 25]) -> Result<Board, Refusal>
     ensures rule { Decides (is_ok result) (Rule own.now other.now) }
     ensures answer { MatchResult result (λ b. position b ≡ placed own.now other.now) (λ e. e ≡ plain BoardRuleBroken) }
 {
-    let a = total(own);
-    let b = total(other);
-    if a > CHECKERS as usize || b > CHECKERS as usize {
-        return Err(Refusal::plain(Reason::BoardRuleBroken));
+    match (with_off(own), with_off(other)) {
+        (Some(own), Some(other)) if apart(&own, &other) => Ok(Board { own, other }),
+        _ => Err(Refusal::plain(Reason::BoardRuleBroken)),
     }
-    let own = with_off(own, CHECKERS - a as u8);
-    let other = with_off(other, CHECKERS - b as u8);
-    if !apart(&own, &other) {
-        return Err(Refusal::plain(Reason::BoardRuleBroken));
-    }
-    Ok(Board { own, other })
 }
 
 // The same board from the other player.

@@ -1,10 +1,6 @@
 -- What an answer says of a weight.
-use Rattle.std.proofs.Common.{◌≡◌, ℕ, Ok, Err, arith}
-use Rattle.refusals.specs.declared.refusal.Refusal.{Refusal}
+use Rattle.std.proofs.Common.{◌≡◌, ℕ, Ok, arith}
 use Rattle.chance.specs.Sums.{Fits, fits?, Admits}
-
-pub refused-not : {t w : ℕ} {e : Refusal} → Admits t w (Err e) → Fits t w → ⊥
-refused-not h f = let x = h.taken f in let z : ◌≡◌ {A = ℕ} 0 1 = cc in omega arith
 
 pub taken_fits : {t w : ℕ} {u : Unit {0}} → Admits t w (Ok u) → Fits t w
 taken_fits {t} {w} h = elim (fits? t w) [ yes f ↦ f | no n ↦ let x = h.refused n in let z : ◌≡◌ {A = ℕ} 0 1 = cc in absurd (omega arith) ]

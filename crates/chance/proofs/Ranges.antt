@@ -1,8 +1,7 @@
 -- What ranges hold, over any scale: what the kinds rest on.
 use Rattle.std.proofs.Common.{ℕ, ◌+◌, ◌-◌, ◌*◌, ◌≤◌, max, leb, mul-le-mul_right, mul-le-mul_left, le_of_mul-le-mul_right, arith, leb-false, leb-true}
-use native.Mathlib.Decide.{dec_le}
 use Rattle.std.proofs.lemmas.Bool.{cond_both}
-use native.Mathlib.Nat.{max-eq_left, max-eq_right, le-max_left, le-max_right, mul-sub}
+use native.Mathlib.Nat.{le-max_left, le-max_right, mul-sub}
 use Rattle.chance.specs.Fraction.{Fraction, Holds, rest, greater, plus, mean}
 
 -- a range that reaches no less far holds what the other holds
@@ -28,7 +27,7 @@ low_up s l p q le h =
     le_of_mul-le-mul_right {k = p.den} (omega (arith, mul-le-mul_right q.den h, mul-le-mul_right s le)) p.above
 
 max-low : (s l k : ℕ) (q : Fraction) → l * q.den ≤ q.num * s → k * q.den ≤ q.num * s → max l k * q.den ≤ q.num * s
-max-low s l k q h i = elim (dec_le l k) [ yes le ↦ rw max-eq_right i | no gt ↦ let ge : k ≤ l = omega arith in rw max-eq_left h ]
+max-low s l k q h i = grind arith
 
 pub better_holds : (s l u k v : ℕ) (p q : Fraction) → Holds s l u p → Holds s k v q → Holds s (max l k) (max u v) (greater p q)
 better_holds s l u k v p q h i =

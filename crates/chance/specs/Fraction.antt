@@ -1,4 +1,4 @@
--- Fractions: a pair of whole numbers, the divisor above 0, compared and reckoned by cross products.
+-- Fractions: numerator and denominator, the latter never 0; nothing is divided, cross products do instead.
 use Rattle.std.specs.Prelude.{◌≡◌, ℕ, ◌+◌, ◌-◌, ◌*◌, ◌^◌, ◌<◌, ◌≤◌, cond, nat_le}
 use Rattle.std.proofs.Common.{arith, mul-pos}
 use Rattle.std.proofs.Math.Nat.{one-le-pow}

@@ -28,15 +28,15 @@ pub record Rules {V S R : Type 0}
   pub bounded : (x : V) → upper x ≤ scale
   pub narrow : (x : V) → upper x - lower x ≤ grain * age x
   pub young : (x : V) → age x ≤ reach
-  -- lost holds 0 and won holds 1, both of age 0
+  -- 0 is what lost holds and 1 what won holds, and their age is 0
   pub lost_holds : Holds scale (lower lost) (upper lost) nothing
   pub lost_age : age lost ≡ 0
   pub won_holds : Holds scale (lower won) (upper won) whole
   pub won_age : age won ≡ 0
-  -- turned holds 1 - q for every q that the value holds, and keeps the age
+  -- whatever q a value holds, turned it holds 1 - q, at the same age
   pub turned_holds : (x : V) (q : Fraction) → Holds scale (lower x) (upper x) q → Holds scale (lower (turned x)) (upper (turned x)) (rest q)
   pub turned_age : (x : V) → age (turned x) ≡ age x
-  -- better holds the greater of any two fractions that the two hold, and has the greater age
+  -- take a fraction from each of two values: their better holds the larger, and is as old as the older
   pub better_holds : (x y : V) (p q : Fraction) → Holds scale (lower x) (upper x) p → Holds scale (lower y) (upper y) q → Holds scale (lower (better x y)) (upper (better x y)) (greater p q)
   pub better_age : (x y : V) → age (better x y) ≡ max (age x) (age y)
   -- every sum: its weight is at most 36, and its greatest age within the reach
@@ -46,13 +46,13 @@ pub record Rules {V S R : Type 0}
   pub empty_weight : weight empty ≡ 0
   pub empty_oldest : oldest empty ≡ 0
   pub empty_held : held empty nothing
-  -- adding a weight that fits adds it, keeps the greater age, and holds t + weight × q for each total t held before and each q that the value holds
+  -- a weight that fits makes the sum so much heavier, and as old as the older of sum and value; where the one held t and the other q, it holds t + weight × q
   pub added_weight : (s : S) (w : ℕ) (x : V) → Fits (weight s) w → weight (added s w x) ≡ weight s + w
   pub added_oldest : (s : S) (w : ℕ) (x : V) → Fits (weight s) w → oldest (added s w x) ≡ max (oldest s) (age x)
   pub added_held : (s : S) (w : ℕ) (x : V) (t q : Fraction) → Fits (weight s) w → held s t → Holds scale (lower x) (upper x) q → held (added s w x) (plus t w q)
   -- adding any other weight changes nothing
   pub added_refused : (s : S) (w : ℕ) (x : V) → (Fits (weight s) w → ⊥) → added s w x ≡ s
-  -- closing a full sum below the reach answers a value that holds t / 36 for each total t held; its age is one more than the sum's
+  -- a full sum younger than the reach closes: where it held t the value holds t / 36, and it is one older than the sum
   pub closed_holds : (s : S) (t : Fraction) → weight s ≡ 36 → oldest s < reach → held s t → Holds scale (lower (closed s)) (upper (closed s)) (mean t)
   pub closed_age : (s : S) → weight s ≡ 36 → oldest s < reach → age (closed s) ≡ oldest s + 1
   -- a row is read as the value that wrote it, and as lost where no value writes it

@@ -4,34 +4,31 @@ ghost use Rattle.chance.specs.Fraction.{Fraction};
 ghost use Rattle.chance.specs.Rules.{Rules};
 ghost use Rattle.chance.specs.Sums.{Admits, Closes};
 
-use crate::number::Number;
 use refusals::refusal::Refusal;
 
 // Values of the kind are ranges of whole numbers over a scale, each with an age.
 pub trait Chance: Copy {
     // A sum of weighted values.
+    // A rule of the project: each kind has its own type of sum.
     type Sum: Drop;
 
-    // A plain record of a value, as it stands in a table.
+    // A plain record of a value.
+    // A rule of the project: each kind has its own type of row, and rows stand plain in the lent parts of a table.
     type Row: Copy;
 
-    type Scale: Number;
+    // What stands for 1, how far the ends may part for each roll, and the greatest age.
+    // A rule of the project: they are associated constants; the check holds each equal to its ghost number, and `rules` has their laws.
+    ghost SCALE: { ℕ };
 
-    type Grain: Number;
+    ghost GRAIN: { ℕ };
 
-    type Reach: Number;
+    ghost REACH: { ℕ };
 
-    const SCALE: Self::Scale;
+    const SCALE: u64;
 
-    const GRAIN: Self::Grain;
+    const GRAIN: u64;
 
-    const REACH: Self::Reach;
-
-    ghost scale: { ℕ };
-
-    ghost grain: { ℕ };
-
-    ghost reach: { ℕ };
+    const REACH: u64;
 
     // Both ends and the age of a value.
     ghost lower: { Self → ℕ };
@@ -49,7 +46,7 @@ pub trait Chance: Copy {
 
     ghost better: { Self → Self → Self };
 
-    // Weight, greatest age and held totals of a sum.
+    // What a sum weighs, how old its oldest value is, and which totals it holds.
     ghost weight: { Self.Sum → ℕ };
 
     ghost oldest: { Self.Sum → ℕ };
@@ -69,9 +66,10 @@ pub trait Chance: Copy {
     ghost read: { Self.Row → Self };
 
     // What each kind has to show.
-    ghost rules: { Rules scale grain reach lower upper age lost won turned better weight oldest held empty added closed written read };
+    ghost rules: { Rules SCALE GRAIN REACH lower upper age lost won turned better weight oldest held empty added closed written read };
 
     // Lower end, upper end and age.
+    // A rule of the project: they are answered as a tuple.
     fn ends(self) -> (u64, u64, u64)
         ensures { result ≡ (lower self, upper self, age self) };
 
@@ -98,7 +96,7 @@ pub trait Chance: Copy {
 
     // Answers the mean over 36 and leaves the sum empty; refused, it stays as it was.
     fn close(sum: &mut Self::Sum) -> Result<Self, Refusal>
-        ensures { Closes (weight sum.old) (oldest sum.old) reach (closed sum.old) empty sum.old result sum.new };
+        ensures { Closes (weight sum.old) (oldest sum.old) REACH (closed sum.old) empty sum.old result sum.new };
 
     fn write_row(self) -> Self::Row
         ensures { result ≡ written self };
@@ -106,10 +104,4 @@ pub trait Chance: Copy {
     // The value that wrote the row, and lost where no value writes it.
     fn read_row(from: Self::Row) -> Self
         ensures { result ≡ read from };
-
-    ghost scale_is: { Self.Scale.Number.value ≡ scale };
-
-    ghost grain_is: { Self.Grain.Number.value ≡ grain };
-
-    ghost reach_is: { Self.Reach.Number.value ≡ reach };
 }

@@ -1,7 +1,5 @@
 // Kinds of chance number: what each of them keeps, and the refusals of sums.
 #![tactic(auto)]
 
-pub mod constants;
 pub mod kind;
-pub mod number;
 pub mod sums;

@@ -1,5 +1,5 @@
-// When a sum takes a weight, when it can be closed, and the age that it keeps: the same for every kind.
-ghost use Rattle.std.specs.Prelude.{◌≡◌, max};
+// When a sum takes a weight, and when it can be closed: the same for every kind.
+ghost use Rattle.std.specs.Prelude.{◌≡◌};
 ghost use Rattle.chance.specs.Sums.{Admits, Closable};
 
 use refusals::reason::Reason;
@@ -9,7 +9,7 @@ use refusals::refusal::Refusal;
 pub fn admit(weight: u64, by: u64) -> Result<(), Refusal>
     ensures { Admits weight by result }
 {
-    if by == 0 || by > 36 || weight > 36 - by {
+    if !(1..=36).contains(&by) || weight > 36 - by {
         return Err(Refusal::plain(Reason::WeightOutOfRange));
     }
     Ok(())
@@ -26,11 +26,4 @@ pub fn closable(weight: u64, oldest: u64, reach: u64) -> Result<(), Refusal>
         return Err(Refusal::plain(Reason::SumTooOld));
     }
     Ok(())
-}
-
-// The greater of two ages.
-pub fn older(a: u8, b: u8) -> u8
-    ensures { result ≡ max a b }
-{
-    a.max(b)
 }

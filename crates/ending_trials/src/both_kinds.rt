@@ -5,6 +5,7 @@ use fixed::range::Fixed;
 use std::test::Fail;
 
 // The points of the roller's checkers and of the other's, 0 for none; length, exact number over 36^11, ends of the fixed range.
+// Stays: a table of numbers as the second reckoning gives them; an Option would only lengthen it.
 type Case = ((u8, u8), (u8, u8), u64, u64, u64, u64);
 
 const CASES: [Case; 20] = [
@@ -51,6 +52,7 @@ const CASES: [Case; 20] = [
     ((6, 6), (2, 1), 4, 14624633760251904, 111111111, 111111112),
 ];
 
+// Stays: a test for each kind, with its own columns of the cases.
 #[test]
 fn exact_chances(rt: HostRuntime) -> Result<(), Fail> {
     let table: SmallTable<Exact> = filled::<Exact>(rt.alloc(), 2)?;

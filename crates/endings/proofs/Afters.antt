@@ -1,5 +1,5 @@
 -- The positions that turns lead to.
-use Rattle.std.proofs.Common.{◌≡◌, ℕ, zero, suc, Bool, true, false, cond, ltb, List, [], ◌∷◌, map, refl, ap, ◌∙◌, inl, inr, arith}
+use Rattle.std.proofs.Common.{◌≡◌, ℕ, zero, suc, Bool, true, false, cond, ltb, List, [], ◌∷◌, map, Option, refl, ap, ◌∙◌, inl, inr, arith}
 use Rattle.std.proofs.lemmas.List.{map-append}
 use Rattle.std.proofs.lemmas.Bool.{cases_Bool, le-ltb}
 use Rattle.board.specs.Side.{on, less}
@@ -9,7 +9,7 @@ use Rattle.turns.specs.Runs.{Move, played}
 use Rattle.listing.specs.Order.{off, down, fits, turns}
 
 -- the positions that `turns` lead to
-unfoldable pub afters : ℕ → ℕ → Position → List ℕ → List Position
+unfoldable pub afters : Option ℕ → ℕ → Position → List ℕ → List Position
 afters due zero b dice = b ∷ []
 afters due (suc n) b dice =
     let more = down (λ d. down (λ s. let r = afters due n (moved b s d) (less dice d) in cond (fits due b dice s d) r []) 25) 6 in
@@ -28,7 +28,7 @@ map-map : (b : Position) (m : Move) (ts : List (List Move)) → map (played b) (
 map-map b m [] = refl
 map-map b m (t ∷ ts) = ap (λ r. played (moved b m.0 m.1) t ∷ r) (map-map b m ts)
 
-pub afters-turns : (due n : ℕ) (b : Position) (dice : List ℕ) → map (played b) (turns due n b dice) ≡ afters due n b dice
+pub afters-turns : (due : Option ℕ) (n : ℕ) (b : Position) (dice : List ℕ) → map (played b) (turns due n b dice) ≡ afters due n b dice
 unfolding turns afters
 afters-turns due zero b dice = refl
 afters-turns due (suc n) b dice =
@@ -47,7 +47,7 @@ down_none f zero e = refl
 down_none f (suc n) e = rw (e (suc n), down_none f n e)
 
 -- nothing begins with a die that is not left
-pub die_off : (due n : ℕ) (b : Position) (dice : List ℕ) (d : ℕ) → on dice d ≡ 0 → down (λ s. cond (fits due b dice s d) (afters due n (moved b s d) (less dice d)) []) 25 ≡ []
+pub die_off : (due : Option ℕ) (n : ℕ) (b : Position) (dice : List ℕ) (d : ℕ) → on dice d ≡ 0 → down (λ s. cond (fits due b dice s d) (afters due n (moved b s d) (less dice d)) []) 25 ≡ []
 die_off due n b dice d z =
     down_none (λ s. cond (fits due b dice s d) (afters due n (moved b s d) (less dice d)) []) 25
     (λ s. let e : ltb 0 (on dice d) ≡ false = le-ltb 0 (on dice d) (omega arith) in rw e)

@@ -1,6 +1,6 @@
 -- How many elements pass a test.
 use Rattle.std.proofs.Common.{◌≡◌, ℕ, ◌<◌, ◌≤◌, Bool, true, false, cond, List, [], ◌∷◌, count_by, refl, inl, inr, arith}
-use Rattle.std.proofs.lemmas.List.Sums.{sum_by-cons}
+use Rattle.std.proofs.lemmas.List.Sums.{sum_by-cons, sum_by-le-sum_by}
 use Rattle.std.proofs.lemmas.Bool.{cases_Bool}
 use Rattle.listing.specs.Listing.{In}
 
@@ -16,9 +16,8 @@ module _ {X : Type 0} (p q : X → Bool) (sub : (x : X) → p x ≡ true → q x
       elim (cases_Bool (p x))
       [ inl e ↦ omega (arith, counted (p x) e, counted (q x) (sub x e)) | inr e ↦ omega (arith, passed (p x) e) ]
 
-  pub count_le : (xs : List X) → count_by p xs ≤ count_by q xs
-  count_le [] = omega arith
-  count_le (x ∷ xs) = omega (arith, sum_by-cons (λ y. cond (p y) 1 0) x xs, sum_by-cons (λ y. cond (q y) 1 0) x xs, one_le x, count_le xs)
+  count_le : (xs : List X) → count_by p xs ≤ count_by q xs
+  count_le xs = sum_by-le-sum_by (λ x. cond (p x) 1 0) (λ x. cond (q x) 1 0) xs one_le
 
   pub count_less : (x : X) (xs : List X) → In x xs → p x ≡ false → q x ≡ true → count_by p xs < count_by q xs
   count_less x [] i e f = absurd i

@@ -1,5 +1,5 @@
--- In an ending a turn is allowed exactly if it is a run that uses all the dice, or bears off the last checker.
-use Rattle.std.proofs.Common.{◌≡◌, ℕ, suc, ◌<◌, ◌≤◌, eqb, ◌⊎◌, List, [], ◌∷◌, length, get_or, set, replicate, sum, sym, refl, ap, ◌∙◌, subst, inl, inr, arith, length-set}
+-- In an ending the allowed turns are the runs that use all the dice, and those that bear off the last checker.
+use Rattle.std.proofs.Common.{◌≡◌, ℕ, suc, ◌<◌, ◌≤◌, eqb, ◌⊎◌, None, List, [], ◌∷◌, length, get_or, set, replicate, sum, sym, refl, ap, ◌∙◌, subst, inl, inr, arith, length-set}
 use Rattle.std.proofs.lemmas.List.{get_or-set_other, get_or-replicate}
 use Rattle.std.proofs.lemmas.List.Sums.{sum_by-cons, sum_by-set}
 use Rattle.std.proofs.lemmas.Bool.{cases_lt, cases_Bool, eqb-false}
@@ -14,7 +14,7 @@ use Rattle.turns.proofs.Runs.{run_few}
 use Rattle.listing.specs.Order.{turns, listed}
 use Rattle.listing.specs.Listing.{Listing}
 use Rattle.listing.proofs.Holds.{Ends, held, holds, in_order}
-use Rattle.listing.proofs.Whole.{meets_zero}
+use Rattle.listing.proofs.Whole.{meets_none}
 use Rattle.listing.proofs.Some.{the_listing}
 use Rattle.endings.specs.Ending.{Home, Ending}
 use Rattle.endings.proofs.Homes.{any_die, moved_home, moved_other, home_few}
@@ -80,13 +80,13 @@ rolled-two x y i j =
     empty : (k : ℕ) → k ≤ 6 → get_or (replicate {A = ℕ} 7 0) k 0 ≡ 0
     empty k l = get_or-replicate {A = ℕ} 7 k 0 0 (omega arith)
 
-pub full_listing : (p : Position) (x y : ℕ) → Ending p → Roll x y → Listing p x y (turns 0 (sum (rolled x y)) p (rolled x y))
+pub full_listing : (p : Position) (x y : ℕ) → Ending p → Roll x y → Listing p x y (turns None (sum (rolled x y)) p (rolled x y))
 unfolding Ends
 full_listing p x y e d =
     record {
-      only = λ t m. let h = held 0 (sum (rolled x y)) p (rolled x y) t (sound p e) m in done t h.0 h.2.1;
-      every = λ t a. holds 0 (sum (rolled x y)) p (rolled x y) t (sound p e) a.0 (meets_zero p t) (run_few p (rolled x y) t a.0, ends t a);
-      ordered = in_order 0 (sum (rolled x y)) p (rolled x y);
+      only = λ t m. let h = held None (sum (rolled x y)) p (rolled x y) t (sound p e) m in done t h.0 h.2.1;
+      every = λ t a. holds None (sum (rolled x y)) p (rolled x y) t (sound p e) a.0 (meets_none p t) (run_few p (rolled x y) t a.0, ends t a);
+      ordered = in_order None (sum (rolled x y)) p (rolled x y);
     }
   where
     done : (t : List Move) → Run p (rolled x y) t → (length t ≡ sum (rolled x y)) ⊎ (on (played p t).own 0 ≡ checkers) → Allowed p x y t
@@ -109,5 +109,5 @@ full_listing p x y e d =
               ])
         ]
 
-pub listed_full : (p : Position) (x y : ℕ) → Ending p → Roll x y → listed p x y ≡ turns 0 (sum (rolled x y)) p (rolled x y)
+pub listed_full : (p : Position) (x y : ℕ) → Ending p → Roll x y → listed p x y ≡ turns None (sum (rolled x y)) p (rolled x y)
 listed_full p x y e d = sym (the_listing p x y _ (sound p e) (full_listing p x y e d))

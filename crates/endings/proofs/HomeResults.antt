@@ -1,5 +1,6 @@
 -- The sides that the turns of a roll lead to, on seven counts.
-use Rattle.std.proofs.Common.{◌≡◌, ℕ, zero, suc, ◌-◌, Bool, false, cond, eqb, ltb, List, [], ◌∷◌, map, length, sum, sym, refl, ap, ◌∙◌, subst, inl, inr, arith, length-set}
+use Rattle.std.proofs.Common.{◌≡◌, ℕ, zero, suc, ◌-◌, Bool, false, cond, eqb, ltb, None, List, [], ◌∷◌, map, length, sum, sym, ap, ◌∙◌, subst, inl, inr, arith, length-set}
+use mathlib.Core.List.{map-map}
 use Rattle.std.proofs.lemmas.Bool.{cases_Bool, eqb-false}
 use Rattle.board.specs.Side.{on, less, shifted, checkers}
 use Rattle.board.specs.Position.{Position, swapped}
@@ -57,17 +58,13 @@ results_long (suc n) a dice c i =
           die_long n a dice c (λ b dice' k. results_long n b dice' c k) d.0 d.3)
     ]
 
-pub map-map : {X Y Z : Type 0} (f : Y → Z) (g : X → Y) (xs : List X) → map f (map g xs) ≡ map (λ x. f (g x)) xs
-map-map f g [] = refl
-map-map f g (x ∷ xs) = ap (λ l. f (g x) ∷ l) (map-map f g xs)
-
 module _ (a b : List ℕ) (e : Ending (at a b)) (l : length a ≡ 7) (m : length b ≡ 7) (r : TwoDice) (i : In r rolls) where
   -- what the turns lead to does not depend on the other side
   pub led_to : map (played (at a b)) (listed (at a b) r.0 r.1) ≡ map (λ c. at c b) (results a r)
   led_to =
       let d = rolls-fine r i in
       ap (map (played (at a b))) (listed_full (at a b) r.0 r.1 e d)
-      ∙ afters-turns 0 (sum (rolled r.0 r.1)) (at a b) (rolled r.0 r.1)
+      ∙ afters-turns None (sum (rolled r.0 r.1)) (at a b) (rolled r.0 r.1)
       ∙ quick (sum (rolled r.0 r.1)) a b (rolled r.0 r.1) l m
 
   pub next : (c : List ℕ) → In c (results a r) → empty c ≡ false → Ending (at b c) × (length c ≡ 7)

@@ -1,7 +1,8 @@
 -- Where the turns of a home side lead, on seven counts.
-use Rattle.std.proofs.Common.{◌≡◌, ℕ, zero, suc, ◌-◌, ◌<◌, ◌≤◌, Bool, true, false, cond, ◌&&◌, eqb, ltb, List, [], ◌∷◌, map, length, sym, refl, ap, ◌∙◌, inl, inr, arith}
+use Rattle.std.proofs.Common.{◌≡◌, ℕ, zero, suc, ◌-◌, ◌<◌, ◌≤◌, Bool, true, false, cond, eqb, ltb, None, List, [], ◌∷◌, map, length, sym, refl, ap, ◌∙◌, inl, inr, arith}
 use Rattle.std.proofs.lemmas.List.{map-append}
-use Rattle.std.proofs.lemmas.Bool.{cases_lt, ltb-false}
+use Rattle.std.proofs.Math.Bool.{and-true}
+use Rattle.std.proofs.lemmas.Bool.{cases_lt, cond-false, ltb-false}
 use Rattle.board.specs.Side.{on, less, shifted, checkers}
 use Rattle.board.specs.Position.{Position}
 use Rattle.board.specs.Single.{moved}
@@ -35,11 +36,8 @@ down_cut f (suc n) l e =
       | inr k ↦ (let z : suc n ≡ 6 = omega arith in ap (down f) z)
     ]
 
-cond_none : {X : Type 0} (c : Bool) (xs : List X) → c ≡ false → cond c xs [] ≡ []
-cond_none c xs e = rw e
-
 abbrev block : ℕ → List ℕ → List ℕ → List ℕ → ℕ → ℕ → List Position
-block n a b dice d s = cond (fits 0 (at a b) dice s d) (afters 0 n (moved (at a b) s d) (less dice d)) []
+block n a b dice d s = cond (fits None (at a b) dice s d) (afters None n (moved (at a b) s d) (less dice d)) []
 
 abbrev home_block : ℕ → List ℕ → List ℕ → ℕ → ℕ → List (List ℕ)
 home_block n a dice d s = cond (home_may a s d) (home_afters n (shifted a s (s - d)) (less dice d)) []
@@ -48,12 +46,8 @@ cond_map : {X Y : Type 0} (g : X → Y) (c e : Bool) (ys : List Y) (xs : List X)
 cond_map g c true ys xs z h = rw z (h refl)
 cond_map g c false ys xs z h = rw z
 
-and_true : (c : Bool) → (c && true) ≡ c
-and_true true = refl
-and_true false = refl
-
-fits-quick : (a b dice : List ℕ) (s d : ℕ) → ltb 0 (on dice d) ≡ true → fits 0 (at a b) dice s d ≡ may (at a b) s d
-fits-quick a b dice s d e = rw e (and_true (may (at a b) s d))
+fits-quick : (a b dice : List ℕ) (s d : ℕ) → ltb 0 (on dice d) ≡ true → fits None (at a b) dice s d ≡ may (at a b) s d
+fits-quick a b dice s d e = rw e (and-true (may (at a b) s d))
 
 when : {X Y : Type 0} (g : X → Y) (c : Bool) (ys : List Y) (xs : List X) → (c ≡ true → ys ≡ map g xs) → (c ≡ false → ys ≡ []) → ys ≡ map g (cond c xs [])
 when g true ys xs f h = f refl
@@ -63,21 +57,21 @@ top : (a b : List ℕ) (c e : Bool) (ps : List Position) (qs : List (List ℕ)) 
 top a b c true ps qs z h = rw z
 top a b c false ps qs z h = rw z h
 
-module _ (n : ℕ) (a b dice : List ℕ) (l : length a ≡ 7) (m : length b ≡ 7) (again : (c dice : List ℕ) → length c ≡ 7 → afters 0 n (at c b) dice ≡ map (λ c. at c b) (home_afters n c dice)) where
+module _ (n : ℕ) (a b dice : List ℕ) (l : length a ≡ 7) (m : length b ≡ 7) (again : (c dice : List ℕ) → length c ≡ 7 → afters None n (at c b) dice ≡ map (λ c. at c b) (home_afters n c dice)) where
   start : (d s : ℕ) → 1 ≤ d → d ≤ 6 → 1 ≤ s → s ≤ 6 → ltb 0 (on dice d) ≡ true → block n a b dice d s ≡ map (λ c. at c b) (home_block n a dice d s)
   start d s i j k h e =
-      cond_map (λ c. at c b) (fits 0 (at a b) dice s d) (home_may a s d) _ _ (fits-quick a b dice s d e ∙ may-quick a b l m s d k h i j)
-      (λ _. ap (λ p. afters 0 n p (less dice d)) (moved-quick a b l m s d k h i j) ∙ again (shifted a s (s - d)) (less dice d) (shifted_long a b l m s d k h i j))
+      cond_map (λ c. at c b) (fits None (at a b) dice s d) (home_may a s d) _ _ (fits-quick a b dice s d e ∙ may-quick a b l m s d k h i j)
+      (λ _. ap (λ p. afters None n p (less dice d)) (moved-quick a b l m s d k h i j) ∙ again (shifted a s (s - d)) (less dice d) (shifted_long a b l m s d k h i j))
 
   by_die : (d : ℕ) → 1 ≤ d → d ≤ 6 → down (block n a b dice d) 25 ≡ map (λ c. at c b) (cond (ltb 0 (on dice d)) (down (home_block n a dice d) 6) [])
   by_die d i j =
       when (λ c. at c b) (ltb 0 (on dice d)) (down (block n a b dice d) 25) (down (home_block n a dice d) 6)
       (λ e.
-      down_cut (block n a b dice d) 25 (omega arith) (λ s k h. cond_none _ _ (fits-quick a b dice s d e ∙ no_start a b s d (beyond a l s k h)))
+      down_cut (block n a b dice d) 25 (omega arith) (λ s k h. cond-false _ _ _ (fits-quick a b dice s d e ∙ no_start a b s d (beyond a l s k h)))
       ∙ down-map (λ c. at c b) (block n a b dice d) (home_block n a dice d) 6 (λ s k h. start d s i j k h e))
-      (λ e. die_off 0 n (at a b) dice d (omega (arith, ltb-false 0 (on dice d) e)))
+      (λ e. die_off None n (at a b) dice d (omega (arith, ltb-false 0 (on dice d) e)))
 
-pub quick : (n : ℕ) (a b dice : List ℕ) → length a ≡ 7 → length b ≡ 7 → afters 0 n (at a b) dice ≡ map (λ c. at c b) (home_afters n a dice)
+pub quick : (n : ℕ) (a b dice : List ℕ) → length a ≡ 7 → length b ≡ 7 → afters None n (at a b) dice ≡ map (λ c. at c b) (home_afters n a dice)
 unfolding afters home_afters
 quick zero a b dice l m = refl
 quick (suc n) a b dice l m =

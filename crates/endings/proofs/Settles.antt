@@ -1,5 +1,6 @@
 -- From the length on the chance is one fraction.
 use Rattle.std.proofs.Common.{◌≡◌, ℕ, zero, suc, ◌+◌, ◌-◌, ◌*◌, ◌^◌, ◌<◌, ◌≤◌, false, List, sum_by, sym, ap, ◌∙◌, inl, inr, pow-suc, arith}
+use Rattle.std.proofs.Math.Nat.{pow-succ'}
 use Rattle.std.proofs.lemmas.Bool.{cases_Bool, eqb-false}
 use Rattle.board.specs.Side.{checkers}
 use Rattle.board.specs.Position.{Position, swapped}
@@ -44,9 +45,6 @@ module _ (p : Position) (r : TwoDice) (e : Ending p) (d : Roll r.0 r.1) where
     pub best_scaled : best v f p r ≡ 36 * best w g p r
     best_scaled = greatest_scaled (after v f p) (after w g p) (listed p r.0 r.1) (λ t i. after_scaled t (listed_allowed t i))
 
-pow_more : (n : ℕ) → 36 ^ suc n ≡ 36 * 36 ^ n
-pow_more n = omega (arith, pow-suc 36 n)
-
 -- one more roll than the length makes 36 times as much of 36 times the whole
 pub chance-same : (n : ℕ) (p : Position) → Ending p → length_of p ≤ n → chance (suc n) p ≡ 36 * chance n p
 unfolding chance
@@ -54,7 +52,7 @@ chance-same zero p e l = absurd (omega (arith, length_is p e))
 chance-same (suc n) p e l =
     sum_scaled (λ r. weight r * best (36 ^ suc n) (chance (suc n)) p r) (λ r. weight r * best (36 ^ n) (chance n) p r) rolls
     (λ r i.
-    let b = best_scaled p r e (rolls-fine r i) (36 ^ suc n) (36 ^ n) (chance (suc n)) (chance n) (pow_more n) (λ q f k. chance-same n q f (omega arith)) in
+    let b = best_scaled p r e (rolls-fine r i) (36 ^ suc n) (36 ^ n) (chance (suc n)) (chance n) (pow-succ' 36 n) (λ q f k. chance-same n q f (omega arith)) in
     rw b (omega arith))
 
 more-rolls : (k : ℕ) (p : Position) → Ending p → chance (k + length_of p) p ≡ 36 ^ k * chance (length_of p) p
@@ -78,10 +76,10 @@ exact-step n p e l =
 
 exact-more : (n : ℕ) (p : Position) → length_of p ≤ n → exact (suc n) p ≡ 36 * exact n p
 unfolding exact
-exact-more n p l = let z : suc n - length_of p ≡ suc (n - length_of p) = omega arith in rw (z, pow_more (n - length_of p)) (omega arith)
+exact-more n p l = let z : suc n - length_of p ≡ suc (n - length_of p) = omega arith in rw (z, pow-succ' 36 (n - length_of p)) (omega arith)
 
 -- from the length less one on the loss of a turn is one fraction
 pub loss-same : (n : ℕ) (p : Position) (r : TwoDice) (t : List Move) → Ending p → Roll r.0 r.1 → Allowed p r.0 r.1 t → length_of p ≤ suc n → exact_loss (suc n) p r t ≡ 36 * exact_loss n p r t
 loss-same n p r t e d a l =
     let h : (q : Position) → Ending q → length_of q < length_of p → exact (suc n) q ≡ 36 * exact n q = λ q f k. exact-more n q (omega arith) in
-    omega (arith, best_scaled p r e d (36 ^ suc n) (36 ^ n) (exact (suc n)) (exact n) (pow_more n) h, after_scaled p r e d (36 ^ suc n) (36 ^ n) (exact (suc n)) (exact n) (pow_more n) h t a)
+    omega (arith, best_scaled p r e d (36 ^ suc n) (36 ^ n) (exact (suc n)) (exact n) (pow-succ' 36 n) h, after_scaled p r e d (36 ^ suc n) (36 ^ n) (exact (suc n)) (exact n) (pow-succ' 36 n) h t a)

@@ -68,7 +68,7 @@ home_same a b h k e = ext_get_or 0 a b (h.long ∙ sym k.long) at
           | inr m ↦ counts-on 6 a b e (suc i) (omega arith) m
         ]
 
--- the home side with these counts on point 6, then 5, down to 1
+-- the home side with these counts, the one on point 6 first and that on 1 last
 abbrev pub side_of : List ℕ → List ℕ
 side_of cs = wide ((checkers - sum cs) ∷ reverse cs)
 

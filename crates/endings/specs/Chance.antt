@@ -22,7 +22,7 @@ unfoldable pub chance : ℕ → Position → ℕ
 chance zero p = 0
 chance (suc n) p = sum_by (λ r. weight r * best (36 ^ n) (chance n) p r) rolls
 
--- v is the greatest after an allowed turn of the roll: none gives more, and one gives it
+-- v is the greatest that a turn can bring: of those allowed none gives more, and one gives it
 pub record Best (whole : ℕ) (others : Position → ℕ) (p : Position) (r : TwoDice) (v : ℕ) : Type 0 where
   pub bound : (t : List Move) → Allowed p r.0 r.1 t → after whole others p t ≤ v
   pub reached : (t : List Move) × Allowed p r.0 r.1 t × (after whole others p t ≡ v)

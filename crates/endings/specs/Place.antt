@@ -7,7 +7,7 @@ abbrev pub counts_from : ℕ → List ℕ → List ℕ
 counts_from zero side = []
 counts_from (suc k) side = on side (suc k) ∷ counts_from k side
 
--- the counts on point 6, then 5, down to 1
+-- the six counts, that on point 6 first and that on 1 last
 abbrev pub counts : List ℕ → List ℕ
 counts side = counts_from 6 side
 

@@ -3,11 +3,15 @@ use Rattle.std.specs.Prelude.{◌≡◌, ℕ, suc, ◌+◌, ◌-◌, ◌*◌, �
 use Rattle.std.specs.Int.{◌∣◌}
 use Rattle.std.proofs.Math.Decide.{dec_le, ℕ_discrete}
 use Rattle.std.proofs.Common.{arith, mul-le-mul_left, pow-add}
-use Rattle.std.proofs.Math.Nat.{dvd-mul_right, dvd-mul_left_of_dvd, dvd_trans, dvd-add, dvd-sub, dvd_of_mod-eq-zero, mod-eq-zero_of_dvd, dvd_of_mul-dvd-mul_left, mul-div_cancel', pow-succ', max-eq_left, max-eq_right}
+use Rattle.std.proofs.Math.Nat.{dvd-mul_right, dvd-mul_left_of_dvd, dvd_trans, dvd-add, dvd-sub, dvd_of_mod-eq-zero, mod-eq-zero_of_dvd, dvd_of_mul-dvd-mul_left, mul-div_cancel', pow-succ', max-eq_left, max-eq_right, pow-le-pow_right}
 use Rattle.chance.specs.Sums.{Fits}
 use Rattle.exact.specs.Sound.{exact_scale, exact_reach, unit_of, Sound, SumSound}
 use Rattle.exact.specs.declared.number.Exact.{Exact}
 use Rattle.exact.specs.declared.number.ExactSum.{ExactSum}
+
+-- a unit is at most the scale
+pub unit_fits : (a : ℕ) → unit_of a ≤ exact_scale
+unit_fits a = let few : 11 - a ≤ 11 = omega arith in pow-le-pow_right (omega arith) few
 
 -- the unit of a greater age divides that of a smaller
 unit_divides : (a b : ℕ) → a ≤ b → b ≤ 11 → unit_of b ∣ unit_of a

@@ -1,4 +1,3 @@
-pub mod Elements
 pub mod Turns
 pub mod Counts
 pub mod Settings

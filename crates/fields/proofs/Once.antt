@@ -4,11 +4,10 @@ use Rattle.std.specs.List.{AllByRecursion}
 use Rattle.std.proofs.lemmas.Bool.Decides.{nat_tests}
 use Rattle.board.specs.declared.player.Player.{Player}
 use Rattle.board.specs.declared.player.Player.TheVariants.{White, Black}
-use Rattle.fields.specs.Exact.{OneReading, Any}
-use Rattle.fields.specs.Digits.{FineDigit, digit_text, FineDice, dice_text}
-use Rattle.fields.specs.Letters.{letter, letter_text}
+use Rattle.fields.specs.Exact.{OneReading}
+use Rattle.board.specs.Players.{letter}
 use Rattle.fields.specs.Moves.{FineMove, move_text, FineMoves, moves_text}
-use Rattle.fields.specs.Sides.{hex, FineCount, count_text, FineSide, side_text, FineSides, sides_text, FineSetting, setting_text}
+use Rattle.fields.specs.Sides.{hex, FineCount, FineSide, side_text, FineSides, sides_text, FineSetting, setting_text}
 use Rattle.fields.proofs.Settings.{parts}
 
 -- a text that can be undone has one reading
@@ -64,13 +63,13 @@ side_back [] fine = refl
 side_back (d ∷ ds) (small, fine) = rw (count_back d small, side_back ds fine) refl
 
 back-sides : List ℕ → List ℕ × List ℕ
-back-sides bs = (back_side (take 25 bs), back_side (take 25 (drop 26 bs)))
+back-sides bs = (back_side (take 25 bs), back_side (drop 1 (drop 25 bs)))
 
 sides-back : (x : List ℕ × List ℕ) → FineSides x → back-sides (sides_text x) ≡ x
 unfolding back-sides
 sides-back (w, b) fine =
-    let at = parts (w, b) (sides_text (w, b)) fine refl in
-    rw (sym at.white, sym at.black, side_back w fine.0.1, side_back b fine.1.1) refl
+    let at = parts (w, b) (sides_text (w, b)) _ _ fine refl refl refl in
+    rw (sym at.white, sym at.rest, side_back w fine.0.1, side_back b fine.1.1) refl
 
 pub back_setting : List ℕ → Player × List ℕ × List ℕ
 back_setting bs = (who (get_or bs 1 0), (back-sides (drop 3 bs)).0, (back-sides (drop 3 bs)).1)
@@ -79,25 +78,11 @@ pub setting_back : (x : Player × List ℕ × List ℕ) → FineSetting x → ba
 unfolding back_setting
 setting_back (p, w, b) fine = rw (who-back p, sides-back (w, b) fine) refl
 
-pub one_digit : OneReading FineDigit digit_text
-unfolding digit_at
-one_digit = undone FineDigit digit_text (λ bs. digit_at bs 0) (λ d fine. digit_back d)
-
-pub one-dice : OneReading FineDice dice_text
-unfolding digit_at
-one-dice = undone FineDice dice_text (λ bs. (digit_at bs 1, digit_at bs 2)) (λ x fine. rw (digit_back x.0, digit_back x.1) refl)
-
-pub one_player : OneReading Any letter_text
-one_player = undone Any letter_text (λ bs. who (get_or bs 0 0)) (λ p fine. who-back p)
-
 pub one_move_text : OneReading FineMove move_text
 one_move_text = undone FineMove move_text (λ bs. get_or (back-moves bs) 0 (0, 0)) (λ m fine. ap (λ (ms : List (ℕ × ℕ)). get_or ms 0 (0, 0)) (moves-back (m ∷ []) (fine, tt)))
 
 pub one-moves : OneReading FineMoves moves_text
 one-moves = undone FineMoves moves_text back-moves (λ ms fine. moves-back ms fine.1)
-
-pub one_count : OneReading FineCount count_text
-one_count = undone FineCount count_text (λ bs. unhex (get_or bs 0 0)) count_back
 
 pub one_side : OneReading FineSide side_text
 one_side = undone FineSide side_text back_side (λ s fine. side_back s fine.1)

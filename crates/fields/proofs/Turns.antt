@@ -1,49 +1,52 @@
--- The text of moves, four bytes to a move.
-use Rattle.std.proofs.Common.{◌≡◌, ℕ, zero, suc, ◌+◌, ◌*◌, ◌<◌, ◌≤◌, List, [], ◌∷◌, length, get_or, take, drop, set, sym, refl, ap, ◌∙◌, arith, take-add}
+-- The text of moves, read one field after another.
+use Rattle.std.proofs.Common.{◌≡◌, ℕ, ◌<◌, min, List, [], ◌∷◌, ◌++◌, length, take, drop, sym, ap, ◌∙◌, arith, Some, append_assoc}
 use Rattle.std.specs.List.{AllByRecursion}
-use Rattle.std.proofs.lemmas.List.{drop_more, take_more_set, take_all, length-take, flat_map_more}
-use Rattle.std.proofs.ByRecursion.{All-get_or, All-push}
+use Rattle.std.proofs.lemmas.List.{take_at, drop_at, flat_map_more}
+use Rattle.std.proofs.ByRecursion.{All-push}
 use Rattle.fields.specs.Moves.{FineMove, FineMoves, move_text, moves_text}
+use Rattle.fields.proofs.Once.{one_move_text}
 
-pub length-moves : (ms : List (ℕ × ℕ)) → length (moves_text ms) ≡ 4 * length ms
-length-moves [] = refl
-length-moves (m ∷ ms) = omega (arith, length-moves ms)
+-- moves that stand in all the bytes begin with those done, and go on with others that stand in the rest
+abbrev GoesOn : List (ℕ × ℕ) → List ℕ → List (ℕ × ℕ) → Type 0
+GoesOn done rest ms = (more : List (ℕ × ℕ)) × AllByRecursion FineMove more × (ms ≡ done ++ more) × (moves_text more ≡ rest)
 
-four : (i : ℕ) → 4 * suc i ≡ suc (suc (suc (suc (4 * i))))
-four i = omega arith
+-- the moves done stand in front of the rest, and no others do
+pub record Ahead (bytes : List ℕ) (done : List (ℕ × ℕ)) (rest : List ℕ) : Type 0 where
+  pub fine : AllByRecursion FineMove done
+  pub text : moves_text done ++ rest ≡ bytes
+  pub goes_on : (ms : List (ℕ × ℕ)) → AllByRecursion FineMove ms → moves_text ms ≡ bytes → GoesOn done rest ms
 
-drop-moves : (i : ℕ) (ms : List (ℕ × ℕ)) → drop (4 * i) (moves_text ms) ≡ moves_text (drop i ms)
-drop-moves zero ms = refl
-drop-moves (suc i) [] = rw (four i) refl
-drop-moves (suc i) (m ∷ ms) = rw (four i) (drop-moves i ms)
+module _ (bytes : List ℕ) (done : List (ℕ × ℕ)) (rest field behind : List ℕ) (so_far : Ahead bytes done rest) (cut : rest ≡ field ++ behind) (some : 0 < length rest) where
+  -- where the field in front is no move, the bytes are no moves
+  pub no_move : length field ≡ min 4 (length rest) → ((m : ℕ × ℕ) → FineMove m → move_text m ≡ field → ⊥) → (ms : List (ℕ × ℕ)) → FineMoves ms → moves_text ms ≡ bytes → ⊥
+  no_move long none ms fine e = next (so_far.goes_on ms fine.1 e)
+    where
+      next : GoesOn done rest ms → ⊥
+      next ([], f, s, t) = omega (arith, ap length t)
+      next (m ∷ more, f, s, t) =
+          let four : length field ≡ 4 = omega (arith, ap length t) in
+          none m f.0 (ap (λ (x : List ℕ). take 4 x) (t ∙ cut) ∙ take_at field behind 4 four)
 
-pub move_at : (i : ℕ) (ms : List (ℕ × ℕ)) → i < length ms → take 4 (drop (4 * i) (moves_text ms)) ≡ move_text (get_or ms i (0, 0))
-move_at i ms h = rw (drop-moves i ms, drop_more ms i (0, 0) h) refl
+  -- one move more
+  pub one_more : (m : ℕ × ℕ) → FineMove m → move_text m ≡ field → Ahead bytes (done ++ m ∷ []) behind
+  one_more m fine is =
+      record {
+        fine = All-push FineMove done m so_far.fine fine;
+        text =
+            let a = flat_map_more move_text [] done m in
+            let b = append_assoc (moves_text done) (move_text m) behind in
+            let c = so_far.text in
+            cc;
+        goes_on = λ ms f e. next ms (so_far.goes_on ms f e);
+      }
+    where
+      four : length field ≡ 4
+      four = sym (ap length is)
 
--- where one part is no move, the bytes are no moves
-pub no_move : (bytes : List ℕ) (i n : ℕ) → 4 * i < length bytes → n ≡ 4 → ((m : ℕ × ℕ) → FineMove m → move_text m ≡ take n (drop (4 * i) bytes) → ⊥) → (ms : List (ℕ × ℕ)) → FineMoves ms → moves_text ms ≡ bytes → ⊥
-no_move bytes i n h k none ms fine e =
-    let len = length-moves ms in
-    let len' : length (moves_text ms) ≡ length bytes = ap length e in
-    let small : i < length ms = omega arith in
-    none (get_or ms i (0, 0)) (All-get_or FineMove ms i (0, 0) small fine.1) (rw (k, sym e) (sym (move_at i ms small)))
-
--- one move more
-pub moves_more : (bytes : List ℕ) (list : List (ℕ × ℕ)) (i n : ℕ) (m : ℕ × ℕ) → i < length list → n ≡ 4
-    → AllByRecursion FineMove (take i list) → moves_text (take i list) ≡ take (4 * i) bytes
-    → FineMove m → move_text m ≡ take n (drop (4 * i) bytes)
-    → AllByRecursion FineMove (take (i + 1) (set list i m)) × (moves_text (take (i + 1) (set list i m)) ≡ take (4 * (i + 1)) bytes)
-moves_more bytes list i n m h k fine is fine-m is_m =
-    let e : 4 * (i + 1) ≡ 4 * i + 4 = omega arith in
-    rw (take_more_set list i m h, e, take-add (4 * i) 4 bytes) (
-      All-push FineMove (take i list) m fine fine-m,
-      (sym (flat_map_more move_text [] (take i list) m) ∙ (let is-4 : move_text m ≡ take 4 (drop (4 * i) bytes) = rw k at is_m in cc)),
-    )
-
--- all the moves
-pub moves_done : (bytes : List ℕ) (list : List (ℕ × ℕ)) (i count : ℕ) → count ≡ i → count ≤ 8 → 4 * count ≡ length bytes
-    → AllByRecursion FineMove (take i list) → moves_text (take i list) ≡ take (4 * i) bytes
-    → FineMoves (take count list) × (moves_text (take count list) ≡ bytes)
-moves_done bytes list i count end few size fine is =
-    let whole = take_all (4 * i) bytes (omega arith) in
-    rw end ((omega (arith, length-take i list), fine), is ∙ whole)
+      next : (ms : List (ℕ × ℕ)) → GoesOn done rest ms → GoesOn (done ++ m ∷ []) behind ms
+      next ms ([], f, s, t) = absurd (omega (arith, ap length t))
+      next ms (n ∷ more, f, s, t) =
+          let here : move_text n ≡ field = ap (λ (x : List ℕ). take 4 x) (t ∙ cut) ∙ take_at field behind 4 four in
+          let same = one_move_text field (Some n) (Some m) (f.0, here) (fine, is) in
+          let a = append_assoc done (m ∷ []) more in
+          (more, f.1, cc, ap (λ (x : List ℕ). drop 4 x) (t ∙ cut) ∙ drop_at field behind 4 four)

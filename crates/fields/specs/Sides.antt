@@ -1,9 +1,9 @@
 -- The sides of a board and their text.
-use Rattle.std.specs.Prelude.{◌≡◌, ℕ, ◌+◌, ◌<◌, cond, List, [], ◌∷◌, ◌++◌, map, length, Some, None, Option, nat_lt}
+use Rattle.std.specs.Prelude.{◌≡◌, ℕ, ◌+◌, ◌<◌, cond, List, [], ◌∷◌, ◌++◌, map, length, Option, option_map, nat_lt}
 use Rattle.std.specs.List.{AllByRecursion}
 use Rattle.board.specs.declared.player.Player.{Player}
 use Rattle.fields.specs.declared.sides.Sides.{Sides}
-use Rattle.fields.specs.Letters.{letter}
+use Rattle.board.specs.Players.{letter}
 
 -- a count is below sixteen
 abbrev pub FineCount : ℕ → Type 0
@@ -35,8 +35,7 @@ sides_text x = side_text x.0 ++ (32 ∷ side_text x.1)
 
 -- what an answer of the program stands for
 abbrev pub sides_shown : Option Sides → Option (List ℕ × List ℕ)
-sides_shown (Some s) = Some (s.white, s.black)
-sides_shown None = None
+sides_shown = option_map (λ s. (s.white, s.black))
 
 -- a player, White's side and Black's
 abbrev pub FineSetting : Player × List ℕ × List ℕ → Type 0
@@ -48,5 +47,4 @@ setting_text x = 32 ∷ letter x.0 ∷ 32 ∷ sides_text (x.1, x.2)
 
 -- what an answer of the program stands for
 abbrev pub setting_shown : Option (Player × Sides) → Option (Player × List ℕ × List ℕ)
-setting_shown (Some x) = Some (x.0, x.1.white, x.1.black)
-setting_shown None = None
+setting_shown = option_map (λ x. (x.0, x.1.white, x.1.black))

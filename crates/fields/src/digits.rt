@@ -20,11 +20,5 @@ pub fn dice(bytes: &[u8]) -> Option<(u8, u8)>
     let [b' ', a, b] = bytes else {
         return None;
     };
-    let Some(first) = digit(*a) else {
-        return None;
-    };
-    let Some(second) = digit(*b) else {
-        return None;
-    };
-    Some((first, second))
+    Some((digit(*a)?, digit(*b)?))
 }

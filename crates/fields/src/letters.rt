@@ -1,7 +1,7 @@
 // The letters of the players.
 ghost use Rattle.std.specs.Prelude.{[], ◌∷◌};
 ghost use Rattle.fields.specs.Exact.{Exact, Any};
-ghost use Rattle.fields.specs.Letters.{letter_text};
+ghost use Rattle.board.specs.Players.{letter_text};
 
 use board::player::Player;
 
@@ -9,9 +9,7 @@ use board::player::Player;
 pub fn player_of(byte: u8) -> Option<Player>
     ensures { Exact Any letter_text (byte ∷ []) result }
 {
-    match byte {
-        b'W' => Some(Player::White),
-        b'B' => Some(Player::Black),
-        _ => None,
-    }
+    [Player::White, Player::Black]
+        .into_iter()
+        .find(|player| player.letter() == byte)
 }

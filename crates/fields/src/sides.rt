@@ -3,11 +3,12 @@ ghost use Rattle.std.specs.Prelude.{[], ◌∷◌};
 ghost use Rattle.fields.specs.Exact.{Exact};
 ghost use Rattle.fields.specs.Sides.{FineCount, count_text, FineSide, side_text, FineSides, sides_text, sides_shown, FineSetting, setting_text, setting_shown};
 
+use crate::digits::digit;
 use crate::letters::player_of;
 use board::player::Player;
 
 // White's and Black's counts on points 1 to 24 and the bar.
-#[derive(Clone, Copy)]
+#[derive(Clone, Copy, PartialEq, Eq, Debug)]
 pub struct Sides {
     pub white: [u8; 25],
     pub black: [u8; 25],
@@ -18,9 +19,8 @@ pub fn count_of(byte: u8) -> Option<u8>
     ensures { Exact FineCount count_text (byte ∷ []) result }
 {
     match byte {
-        b'0'..=b'9' => Some(byte - b'0'),
         b'a'..=b'f' => Some(byte - b'a' + 10),
-        _ => None,
+        _ => digit(byte),
     }
 }
 
@@ -28,36 +28,24 @@ pub fn count_of(byte: u8) -> Option<u8>
 pub fn side(bytes: &[u8]) -> Option<[u8; 25]>
     ensures { Exact FineSide side_text bytes.now result }
 {
-    if bytes.len() != 25 {
-        return None;
-    }
-    let mut counts = [0u8; 25];
-    for i in 0..25 {
-        let Some(n) = count_of(bytes[i]) else {
-            return None;
-        };
-        counts[i] = n;
-    }
-    Some(counts)
+    let digits: [u8; 25] = bytes.try_into().ok()?;
+    // Stays: `try_map` takes a Result, so a count that is none is told as an error without a value, and back.
+    digits.try_map(|digit| count_of(digit).ok_or(())).ok()
 }
 
 // Both sides of a board, White's first, with a space between them.
 fn both(bytes: &[u8]) -> Option<Sides>
     ensures { Exact FineSides sides_text bytes.now (sides_shown result) }
 {
-    if bytes.len() != 51 {
+    let (white, rest) = bytes.split_at_checked(25)?;
+    let (space, black) = rest.split_first()?;
+    if *space != b' ' {
         return None;
     }
-    if bytes[25] != b' ' {
-        return None;
-    }
-    let Some(white) = side(&bytes[0..25]) else {
-        return None;
-    };
-    let Some(black) = side(&bytes[26..51]) else {
-        return None;
-    };
-    Some(Sides { white, black })
+    Some(Sides {
+        white: side(white)?,
+        black: side(black)?,
+    })
 }
 
 // A player and both sides of a board, each behind a space.
@@ -67,11 +55,5 @@ pub fn setting(bytes: &[u8]) -> Option<(Player, Sides)>
     let [b' ', letter, b' ', rest @ ..] = bytes else {
         return None;
     };
-    let Some(player) = player_of(*letter) else {
-        return None;
-    };
-    let Some(sides) = both(rest) else {
-        return None;
-    };
-    Some((player, sides))
+    Some((player_of(*letter)?, both(rest)?))
 }

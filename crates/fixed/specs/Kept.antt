@@ -1,53 +1,41 @@
 -- The fixed range keeps the rules of a kind.
-use Rattle.std.specs.Prelude.{◌≡◌, ℕ, ◌+◌, ◌*◌, ◌/◌, ◌<◌, ◌≤◌, refl}
-use Rattle.std.proofs.Common.{sym, ap, subst, arith, lit≤}
+use Rattle.std.specs.Prelude.{◌≡◌, ℕ, ◌+◌, ◌*◌, ◌/◌, ◌<◌, ◌≤◌, max, refl}
+use Rattle.std.proofs.Common.{sym, ap, ◌∙◌, subst, arith, lit≤}
 use mathlib.Core.HLevel.{is_prop→PathP}
-use Rattle.std.proofs.Math.Bridge.{le_prop}
+use Rattle.std.proofs.Props.{props}
 use Rattle.std.proofs.Math.Decide.{dec_lt}
 use Rattle.chance.specs.Fraction.{Fraction, Holds, plus, mean}
 use Rattle.chance.specs.Rules.{Rules}
 use Rattle.chance.specs.Sums.{Fits, fits?}
-use Rattle.chance.proofs.Chosen.{chosen, not_chosen}
+use Rattle.chance.proofs.Chosen.{chosen_one, not_chosen}
 use Rattle.chance.proofs.Ranges.{turned_holds, better_holds, plus-holds, mean-holds}
-use Rattle.fixed.specs.Sound.{fixed_scale, fixed_reach, Sound}
-use Rattle.fixed.specs.Stays.{sound?}
-use Rattle.fixed.specs.Range.{range, fixed_lost, fixed_won, fixed_turned, fixed_better, fixed_empty, fixed_with, fixed_added, fixed_mean, fixed_closed, FixedHeld, fixed_written, fixed_read}
+use Rattle.fixed.specs.Sound.{fixed_scale, fixed_reach, Sound, SumSound}
+use Rattle.fixed.specs.Stays.{with_sound, mean_sound, sound?}
+use Rattle.fixed.specs.Range.{range, total, fixed_lost, fixed_won, fixed_turned, fixed_better, fixed_empty, fixed_with, fixed_added, fixed_mean, fixed_closed, FixedHeld, fixed_written, fixed_read}
 use Rattle.fixed.specs.declared.range.Fixed.{Fixed}
 use Rattle.fixed.specs.declared.range.FixedSum.{FixedSum}
 use Rattle.fixed.specs.declared.range.FixedRow.{FixedRow}
 
--- two values with the same numbers are the same
+Sound-prop : (l u a : ℕ) → IsProp (Sound l u a)
+Sound-prop l u a = hlevel props
+
+SumSound-prop : (l u w a : ℕ) → IsProp (SumSound l u w a)
+SumSound-prop l u w a = hlevel props
+
+-- two values with the same numbers are the same, and so are two sums
 pub same_range : (x y : Fixed) → x.lower ≡ y.lower → x.upper ≡ y.upper → x.age ≡ y.age → x ≡ y
-same_range x y l u a = λ i. record {
-  lower = l i;
-  upper = u i;
-  age = a i;
-  ok = (
-    is_prop→PathP (λ k. l k ≤ u k) (λ k. le_prop) x.ok.0 y.ok.0 i,
-    is_prop→PathP (λ k. u k ≤ fixed_scale) (λ k. le_prop) x.ok.1 y.ok.1 i,
-    is_prop→PathP (λ k. u k ≤ l k + a k) (λ k. le_prop) x.ok.2 y.ok.2 i,
-    is_prop→PathP (λ k. a k ≤ fixed_reach) (λ k. le_prop) x.ok.3 y.ok.3 i,
-  );
-}
+same_range x y l u a = λ i. record { lower = l i; upper = u i; age = a i; ok = is_prop→PathP (λ k. Sound (l k) (u k) (a k)) (λ k. Sound-prop _ _ _) x.ok y.ok i }
 
 pub same_total : (x y : FixedSum) → x.lower ≡ y.lower → x.upper ≡ y.upper → x.weight ≡ y.weight → x.age ≡ y.age → x ≡ y
-same_total x y l u w a = λ i. record {
-  lower = l i;
-  upper = u i;
-  weight = w i;
-  age = a i;
-  ok = (
-    is_prop→PathP (λ k. w k ≤ 36) (λ k. le_prop) x.ok.0 y.ok.0 i,
-    is_prop→PathP (λ k. l k ≤ u k) (λ k. le_prop) x.ok.1 y.ok.1 i,
-    is_prop→PathP (λ k. u k ≤ w k * fixed_scale) (λ k. le_prop) x.ok.2 y.ok.2 i,
-    is_prop→PathP (λ k. u k ≤ l k + w k * a k) (λ k. le_prop) x.ok.3 y.ok.3 i,
-    is_prop→PathP (λ k. a k ≤ fixed_reach) (λ k. le_prop) x.ok.4 y.ok.4 i,
-  );
-}
+same_total x y l u w a = λ i. record { lower = l i; upper = u i; weight = w i; age = a i; ok = is_prop→PathP (λ k. SumSound (l k) (u k) (w k) (a k)) (λ k. SumSound-prop _ _ _ _) x.ok y.ok i }
 
 pub added_is : (s : FixedSum) (w : ℕ) (x : Fixed) (h : Fits s.weight w) → fixed_added s w x ≡ fixed_with s w x h
 unfolding fixed_added
-added_is s w x h = chosen (fits? s.weight w) (fixed_with s w x) s _ h (λ k. same_total _ _ refl refl refl refl)
+added_is s w x h = chosen_one (fits? s.weight w) (fixed_with s w x) s (hlevel props) h
+
+-- a sum with these numbers is the one with the value added
+pub is_added : (s : FixedSum) (w : ℕ) (x : Fixed) → Fits s.weight w → (l u v a : ℕ) → l ≡ s.lower + w * x.lower → u ≡ s.upper + w * x.upper → v ≡ s.weight + w → a ≡ max s.age x.age → (h : SumSound l u v a) → total l u v a h ≡ fixed_added s w x
+is_added s w x f l u v a d e g i = rw (d, e, g, i) (λ h. ap (total _ _ _ _) (SumSound-prop _ _ _ _ h (with_sound s w x f)) ∙ sym (added_is s w x f))
 
 pub added_not : (s : FixedSum) (w : ℕ) (x : Fixed) → (Fits s.weight w → ⊥) → fixed_added s w x ≡ s
 unfolding fixed_added
@@ -55,11 +43,14 @@ added_not s w x n = not_chosen (fits? s.weight w) (fixed_with s w x) s n
 
 pub closed_is : (s : FixedSum) (h : s.age < fixed_reach) → fixed_closed s ≡ fixed_mean s h
 unfolding fixed_closed
-closed_is s h = chosen (dec_lt s.age fixed_reach) (fixed_mean s) fixed_lost _ h (λ k. same_range _ _ refl refl refl)
+closed_is s h = chosen_one (dec_lt s.age fixed_reach) (fixed_mean s) fixed_lost (hlevel props) h
+
+pub is_closed : (s : FixedSum) → s.age < fixed_reach → (l u a : ℕ) → l ≡ s.lower / 36 → u ≡ (s.upper + 35) / 36 → a ≡ s.age + 1 → (h : Sound l u a) → range l u a h ≡ fixed_closed s
+is_closed s y l u a d e g = rw (d, e, g) (λ h. ap (range _ _ _) (Sound-prop _ _ _ h (mean_sound s y)) ∙ sym (closed_is s y))
 
 pub row_is : (r : FixedRow) (h : Sound r.lower r.upper r.age) → fixed_read r ≡ range r.lower r.upper r.age h
 unfolding fixed_read
-row_is r h = chosen (sound? r.lower r.upper r.age) (range r.lower r.upper r.age) fixed_lost _ h (λ k. same_range _ _ refl refl refl)
+row_is r h = chosen_one (sound? r.lower r.upper r.age) (range r.lower r.upper r.age) fixed_lost (Sound-prop _ _ _) h
 
 pub row_not : (r : FixedRow) → (Sound r.lower r.upper r.age → ⊥) → fixed_read r ≡ fixed_lost
 unfolding fixed_read

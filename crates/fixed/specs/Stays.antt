@@ -1,8 +1,7 @@
 -- Each answer of the fixed range keeps the rule of Sound.
 use Rattle.std.specs.Prelude.{ℕ, ◌+◌, ◌-◌, ◌*◌, ◌/◌, ◌<◌, ◌≤◌, max}
 use Rattle.std.proofs.Math.Decide.{dec_le}
-use Rattle.std.proofs.Common.{arith, mul-le-mul_left, mul-le-mul_right, mul-add, add-mul, mod-lt}
-use Rattle.std.proofs.Math.Nat.{div-add-mod}
+use Rattle.std.proofs.Common.{arith, mul-le-mul_left, mul-le-mul_right, mul-add, add-mul}
 use Rattle.chance.specs.Sums.{Fits}
 use Rattle.fixed.specs.Sound.{fixed_scale, fixed_reach, Sound, SumSound}
 use Rattle.fixed.specs.declared.range.Fixed.{Fixed}
@@ -42,10 +41,6 @@ with_sound s w x h =
 
 pub mean_sound : (s : FixedSum) → s.age < fixed_reach → Sound (s.lower / 36) ((s.upper + 35) / 36) (s.age + 1)
 mean_sound s h =
-    let d = div-add-mod s.lower 36 in
-    let r = mod-lt s.lower {m = 36} (omega arith) in
-    let d' = div-add-mod (s.upper + 35) 36 in
-    let r' = mod-lt (s.upper + 35) {m = 36} (omega arith) in
     let wide = mul-le-mul_right s.age s.ok.0 in
     (omega arith, omega arith, omega arith, omega arith)
 

@@ -3,7 +3,8 @@ ghost use Rattle.fixed.specs.Sound.{Sound, SumSound};
 pub mod kind;
 
 // Both ends over 1,000,000,000, and the age.
-#[derive(Clone, Copy)]
+// A rule of the project: the rule of its numbers is an invariant of the value's type.
+#[derive(Clone, Copy, Debug, PartialEq, Eq)]
 pub struct Fixed {
     lower: u32,
     upper: u32,
@@ -12,7 +13,7 @@ pub struct Fixed {
 }
 
 // The weighted sums of both ends, the weight in all, and the greatest age.
-#[derive(Drop)]
+#[derive(Debug, PartialEq, Eq, Drop)]
 pub struct FixedSum {
     lower: u64,
     upper: u64,
@@ -22,7 +23,7 @@ pub struct FixedSum {
 }
 
 // Both ends and the age, with nothing known of them.
-#[derive(Clone, Copy)]
+#[derive(Clone, Copy, Debug, PartialEq, Eq)]
 pub struct FixedRow {
     pub lower: u32,
     pub upper: u32,

@@ -1,4 +1,3 @@
 pub mod Bests
 pub mod Means
 pub mod Parts
-pub mod Powers

@@ -7,7 +7,7 @@ use Rattle.chance.specs.declared.kind.Chance.{Ghosts}
 use Rattle.folds.specs.Best.{oldest_from, AllHeld}
 use Rattle.folds.specs.Mean.{AllFit, weighed, weights, values, summed, Ready}
 
-module _ {V S R A B C : Type 0} (k : Ghosts V S R A B C) where
+module _ {V S R : Type 0} (k : Ghosts V S R) where
   pub summed-weight : (s : S) (ps : List (ℕ × V)) → AllFit (k.weight s) (weights ps) → k.weight (summed k s ps) ≡ k.weight s + sum_by (λ p. p.0) ps
   summed-weight s [] f = sym (add-zero _)
   summed-weight s (p ∷ ps) f =
@@ -40,10 +40,10 @@ module _ {V S R A B C : Type 0} (k : Ghosts V S R A B C) where
 
   pub mean-holds : (ps : List (ℕ × V)) → Ready k ps → (qs : List Fraction) → AllHeld k (values ps) qs → Held k (k.closed (summed k k.empty ps)) (mean (weighed nothing (weights ps) qs))
   mean-holds ps r qs a =
-      let young = subst (λ o. o < k.reach) (sym (total_oldest ps r.fit)) r.young in
+      let young = subst (λ o. o < k.REACH) (sym (total_oldest ps r.fit)) r.young in
       k.rules.closed_holds _ _ (total-weight ps r.fit ∙ r.full) young (summed-held k.empty nothing ps qs (from_empty (weights ps) r.fit) k.rules.empty_held a)
 
   pub mean_age : (ps : List (ℕ × V)) → Ready k ps → k.age (k.closed (summed k k.empty ps)) ≡ oldest_from k 0 (values ps) + 1
   mean_age ps r =
-      let young = subst (λ o. o < k.reach) (sym (total_oldest ps r.fit)) r.young in
+      let young = subst (λ o. o < k.REACH) (sym (total_oldest ps r.fit)) r.young in
       k.rules.closed_age _ (total-weight ps r.fit ∙ r.full) young ∙ ap (λ o. o + 1) (total_oldest ps r.fit)

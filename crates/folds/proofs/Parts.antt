@@ -1,16 +1,14 @@
 -- Adding parts one after another: what is known on the way, and what is answered at the end.
-use Rattle.std.proofs.Common.{◌≡◌, ℕ, ◌+◌, ◌<◌, ◌≤◌, List, [], ◌∷◌, length, get_or, drop, Ok, Err, Result, sym, ap, ◌∙◌, subst, add-one, arith, drop-cons}
+use Rattle.std.proofs.Common.{◌≡◌, ℕ, ◌+◌, ◌<◌, ◌≤◌, List, [], ◌∷◌, length, get_or, drop, Ok, Result, sym, ap, ◌∙◌, subst, add-one, arith, drop-cons}
 use Rattle.std.proofs.lemmas.List.{drop_all}
 use Rattle.refusals.specs.declared.refusal.Refusal.{Refusal}
-use Rattle.refusals.specs.declared.reason.Reason.TheVariants.{WeightOutOfRange}
-use Rattle.refusals.specs.Fields.{plain}
 use Rattle.chance.specs.Sums.{Fits, Closes}
 use Rattle.chance.specs.declared.kind.Chance.{Ghosts}
 use Rattle.folds.specs.Mean.{AllFit, weights, summed, Mean}
 use Rattle.folds.proofs.Means.{total-weight, total_oldest, mean-holds, mean_age}
 
 -- s is the sum so far of the parts ps, of which the rest is left
-pub record WeighedSoFar {V S R A B C : Type 0} (k : Ghosts V S R A B C) (ps rest : List (ℕ × V)) (s : S) : Type 0 where
+pub record WeighedSoFar {V S R : Type 0} (k : Ghosts V S R) (ps rest : List (ℕ × V)) (s : S) : Type 0 where
   pub same : summed k s rest ≡ summed k k.empty ps
   pub onward : AllFit 0 (weights ps) → AllFit (k.weight s) (weights rest)
   pub back : AllFit (k.weight s) (weights rest) → AllFit 0 (weights ps)
@@ -19,16 +17,7 @@ pub record WeighedSoFar {V S R A B C : Type 0} (k : Ghosts V S R A B C) (ps rest
 left_at : {X : Type 0} (xs : List X) (i : ℕ) (x : X) → i < length xs → x ≡ get_or xs i x → drop i xs ≡ x ∷ drop (i + 1) xs
 left_at xs i x h e = drop-cons xs i x h ∙ rw (add-one, ← e)
 
-module _ {V S R A B C : Type 0} (k : Ghosts V S R A B C) (ps : List (ℕ × V)) where
-  pub begun : (s : S) → s ≡ k.empty → WeighedSoFar k ps ps s
-  begun s e =
-      let w = ap k.weight e ∙ k.rules.empty_weight in
-      record {
-        same = ap (λ s. summed k s ps) e;
-        onward = λ f. subst (λ t. AllFit t (weights ps)) (sym w) f;
-        back = λ f. subst (λ t. AllFit t (weights ps)) w f;
-      }
-
+module _ {V S R : Type 0} (k : Ghosts V S R) (ps : List (ℕ × V)) where
   next : (p : ℕ × V) (rest : List (ℕ × V)) (s s' : S) → WeighedSoFar k ps (p ∷ rest) s → Fits (k.weight s) p.0 → s' ≡ k.added s p.0 p.1 → WeighedSoFar k ps rest s'
   next p rest s s' so f e =
       let w = ap k.weight e ∙ k.rules.added_weight s p.0 p.1 f in
@@ -41,19 +30,7 @@ module _ {V S R A B C : Type 0} (k : Ghosts V S R A B C) (ps : List (ℕ × V)) 
   pub next-at : (i : ℕ) (p : ℕ × V) (s s' : S) → i < length ps → p ≡ get_or ps i p → WeighedSoFar k ps (drop i ps) s → Fits (k.weight s) p.0 → s' ≡ k.added s p.0 p.1 → WeighedSoFar k ps (drop (i + 1) ps) s'
   next-at i p s s' h e so f z = next p (drop (i + 1) ps) s s' (subst (λ rest. WeighedSoFar k ps rest s) (left_at ps i p h e) so) f z
 
-  pub refused-at : (i : ℕ) (p : ℕ × V) (s : S) (r : Result V Refusal) → i < length ps → p ≡ get_or ps i p → WeighedSoFar k ps (drop i ps) s → (Fits (k.weight s) p.0 → ⊥) → r ≡ Err (plain WeightOutOfRange) → Mean k ps r
-  refused-at i p s r h e so n z =
-      let none : AllFit 0 (weights ps) → ⊥ = λ a. n ((subst (λ rest. WeighedSoFar k ps rest s) (left_at ps i p h e) so).onward a).0 in
-      record {
-        misfit = λ _. z;
-        short = λ a. absurd (none a);
-        old = λ a. absurd (none a);
-        done = λ r. absurd (none r.fit);
-        holds = mean-holds k ps;
-        age = mean_age k ps;
-      }
-
-  closed_so : (s s' : S) (r : Result V Refusal) → WeighedSoFar k ps [] s → Closes (k.weight s) (k.oldest s) k.reach (k.closed s) k.empty s r s' → Mean k ps r
+  closed_so : (s s' : S) (r : Result V Refusal) → WeighedSoFar k ps [] s → Closes (k.weight s) (k.oldest s) k.REACH (k.closed s) k.empty s r s' → Mean k ps r
   closed_so s s' r so c =
       let fit = so.back tt in
       let w : k.weight s ≡ _ = ap k.weight so.same ∙ total-weight k ps fit in
@@ -67,5 +44,5 @@ module _ {V S R A B C : Type 0} (k : Ghosts V S R A B C) (ps : List (ℕ × V)) 
         age = mean_age k ps;
       }
 
-  pub closed_at : (i : ℕ) (s s' : S) (r : Result V Refusal) → length ps ≤ i → WeighedSoFar k ps (drop i ps) s → Closes (k.weight s) (k.oldest s) k.reach (k.closed s) k.empty s r s' → Mean k ps r
+  pub closed_at : (i : ℕ) (s s' : S) (r : Result V Refusal) → length ps ≤ i → WeighedSoFar k ps (drop i ps) s → Closes (k.weight s) (k.oldest s) k.REACH (k.closed s) k.empty s r s' → Mean k ps r
   closed_at i s s' r h so c = closed_so s s' r (subst (λ rest. WeighedSoFar k ps rest s) (drop_all _ _ h) so) c

@@ -5,7 +5,7 @@ use Rattle.chance.specs.Greatest.{Greatest}
 use Rattle.chance.specs.Held.{Held}
 use Rattle.chance.specs.declared.kind.Chance.{Ghosts}
 
-module _ {V S R A B C : Type 0} (k : Ghosts V S R A B C) where
+module _ {V S R : Type 0} (k : Ghosts V S R) where
   -- the better of the values, in order, begun with the first
   abbrev pub best : V → List V → V
   best x ys = fold k.better x ys

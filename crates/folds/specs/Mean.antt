@@ -33,23 +33,23 @@ abbrev pub in_all : {V : Type 0} → List (ℕ × V) → ℕ
 in_all ps = sum_by (λ p. p.0) ps
 
 -- the sum after all parts have been added to it, in order
-abbrev pub summed : {V S R A B C : Type 0} → Ghosts V S R A B C → S → List (ℕ × V) → S
+abbrev pub summed : {V S R : Type 0} → Ghosts V S R → S → List (ℕ × V) → S
 summed k s ps = fold (λ s p. k.added s p.0 p.1) s ps
 
 -- the parts can be added and closed
-pub record Ready {V S R A B C : Type 0} (k : Ghosts V S R A B C) (ps : List (ℕ × V)) : Type 0 where
+pub record Ready {V S R : Type 0} (k : Ghosts V S R) (ps : List (ℕ × V)) : Type 0 where
   pub fit : AllFit 0 (weights ps)
   pub full : in_all ps ≡ 36
-  pub young : oldest_from k 0 (values ps) < k.reach
+  pub young : oldest_from k 0 (values ps) < k.REACH
 
 -- the mean of the parts: which refusal or value is answered, what the value holds, and its age
-pub record Mean {V S R A B C : Type 0} (k : Ghosts V S R A B C) (ps : List (ℕ × V)) (r : Result V Refusal) : Type 0 where
+pub record Mean {V S R : Type 0} (k : Ghosts V S R) (ps : List (ℕ × V)) (r : Result V Refusal) : Type 0 where
   -- first, a weight that does not fit the sum before it
   pub misfit : (AllFit 0 (weights ps) → ⊥) → r ≡ Err (plain WeightOutOfRange)
   -- then, less than 36 in all
   pub short : AllFit 0 (weights ps) → in_all ps < 36 → r ≡ Err (plain SumNotFull)
   -- then, the greatest age is the reach
-  pub old : AllFit 0 (weights ps) → in_all ps ≡ 36 → k.reach ≤ oldest_from k 0 (values ps) → r ≡ Err (plain SumTooOld)
+  pub old : AllFit 0 (weights ps) → in_all ps ≡ 36 → k.REACH ≤ oldest_from k 0 (values ps) → r ≡ Err (plain SumTooOld)
   -- otherwise the closed sum
   pub done : Ready k ps → r ≡ Ok (k.closed (summed k k.empty ps))
   -- which holds the weighted mean of whatever fractions the values hold

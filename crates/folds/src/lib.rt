@@ -14,11 +14,10 @@ pub fn best_of<K: Chance>(first: K, others: &[K]) -> K
     ensures holds { BestHolds K.Chance first others.now result }
     ensures age { K.Chance.age result ≡ oldest_from K.Chance (K.Chance.age first) others.now }
 {
-    let mut top = first;
-    for other in others {
-        top = top.better(*other);
-    }
-    top
+    others
+        .iter()
+        .copied()
+        .fold(first, |top, other| top.better(other))
 }
 
 // The values, each with its weight, added in order, and the sum closed.
@@ -26,11 +25,8 @@ pub fn mean_of<K: Chance>(parts: &[(u64, K)]) -> Result<K, Refusal>
     ensures { Mean K.Chance parts.now result }
 {
     let mut sum = K::empty();
-    for part in parts {
-        let (by, value) = *part;
-        if let Err(refusal) = K::add(&mut sum, by, value) {
-            return Err(refusal);
-        }
+    for &(by, value) in parts {
+        K::add(&mut sum, by, value)?;
     }
     K::close(&mut sum)
 }

@@ -13,28 +13,20 @@ pub fn is_same<T: PartialEq + Debug + Drop>(got: T, wanted: T) -> Result<(), Fai
     Err(Fail::new(format_args!("{got:?}, and {wanted:?} is wanted")))
 }
 
-pub fn is_value<K: Chance>(r: Result<K, Refusal>, ends: (u64, u64, u64)) -> Result<(), Fail> {
-    match r {
-        Ok(x) => is_same(x.ends(), ends),
-        Err(_) => Err(Fail::new("refused")),
-    }
+// A value with these ends and this age is answered.
+pub fn is_value<K: Chance>(got: Result<K, Refusal>, ends: (u64, u64, u64)) -> Result<(), Fail> {
+    is_same(got.map(|value| value.ends()), Ok(ends))
 }
 
-pub fn is_refused<K: Chance>(r: Result<K, Refusal>, why: Reason) -> Result<(), Fail> {
-    match r {
-        Ok(_) => Err(Fail::new("not refused")),
-        Err(e) => is_same(e, Refusal::plain(why)),
-    }
+pub fn is_refused<K: Chance>(got: Result<K, Refusal>, why: Reason) -> Result<(), Fail> {
+    is_same(got.map(|value| value.ends()), Err(Refusal::plain(why)))
 }
 
-// Adding won with such a weight is refused.
-pub fn weight_refused<K: Chance>(sum: &mut K::Sum, by: u64) -> Result<(), Fail> {
-    is_same(
-        K::add(sum, by, K::won()),
-        Err(Refusal::plain(Reason::WeightOutOfRange)),
-    )
-}
-
-pub fn weight_taken<K: Chance>(sum: &mut K::Sum, by: u64) -> Result<(), Fail> {
-    is_same(K::add(sum, by, K::won()), Ok(()))
+// What adding won with such a weight is answered.
+pub fn is_added<K: Chance>(
+    sum: &mut K::Sum,
+    by: u64,
+    wanted: Result<(), Reason>,
+) -> Result<(), Fail> {
+    is_same(K::add(sum, by, K::won()), wanted.map_err(Refusal::plain))
 }

@@ -1,6 +1,5 @@
 // What every kind does alike, tried on both.
-use crate::answers::{is_refused, is_same, is_value, weight_refused, weight_taken};
-use chance::constants::scale_of;
+use crate::answers::{is_added, is_refused, is_same, is_value};
 use chance::kind::Chance;
 use exact::number::Exact;
 use fixed::range::Fixed;
@@ -8,8 +7,10 @@ use folds::mean_of;
 use refusals::reason::Reason;
 use std::test::Fail;
 
+const MISFIT: Result<(), Reason> = Err(Reason::WeightOutOfRange);
+
 fn ends_of_the_scale<K: Chance>() -> Result<(), Fail> {
-    let scale = scale_of::<K>();
+    let scale = K::SCALE;
     is_same(K::lost().ends(), (0, 0, 0))?;
     is_same(K::won().ends(), (scale, scale, 0))?;
     is_same(K::won().turned().ends(), (0, 0, 0))
@@ -18,25 +19,25 @@ fn ends_of_the_scale<K: Chance>() -> Result<(), Fail> {
 // A refused weight leaves the sum as it was.
 fn weights<K: Chance>() -> Result<(), Fail> {
     let mut sum = K::empty();
-    weight_refused::<K>(&mut sum, 0)?;
-    weight_refused::<K>(&mut sum, 37)?;
-    weight_refused::<K>(&mut sum, 18_446_744_073_709_551_615)?;
-    weight_taken::<K>(&mut sum, 30)?;
-    weight_refused::<K>(&mut sum, 7)?;
-    weight_taken::<K>(&mut sum, 6)?;
-    weight_refused::<K>(&mut sum, 1)
+    is_added::<K>(&mut sum, 0, MISFIT)?;
+    is_added::<K>(&mut sum, 37, MISFIT)?;
+    is_added::<K>(&mut sum, u64::MAX, MISFIT)?;
+    is_added::<K>(&mut sum, 30, Ok(()))?;
+    is_added::<K>(&mut sum, 7, MISFIT)?;
+    is_added::<K>(&mut sum, 6, Ok(()))?;
+    is_added::<K>(&mut sum, 1, MISFIT)
 }
 
 // A closed sum is as new, and one that is refused stays as it was.
 fn closing<K: Chance>() -> Result<(), Fail> {
-    let scale = scale_of::<K>();
+    let scale = K::SCALE;
     let mut sum = K::empty();
-    weight_taken::<K>(&mut sum, 35)?;
+    is_added::<K>(&mut sum, 35, Ok(()))?;
     is_refused(K::close(&mut sum), Reason::SumNotFull)?;
-    weight_taken::<K>(&mut sum, 1)?;
+    is_added::<K>(&mut sum, 1, Ok(()))?;
     is_value(K::close(&mut sum), (scale, scale, 1))?;
     is_refused(K::close(&mut sum), Reason::SumNotFull)?;
-    weight_taken::<K>(&mut sum, 36)
+    is_added::<K>(&mut sum, 36, Ok(()))
 }
 
 // The 21 rolls with their weights, where the roller wins at the doubles.

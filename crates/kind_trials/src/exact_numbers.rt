@@ -1,6 +1,5 @@
 // Exact numbers.
 use crate::answers::{is_refused, is_value};
-use chance::constants::{grain_of, reach_of, scale_of};
 use chance::kind::Chance;
 use exact::number::{Exact, ExactRow};
 use folds::mean_of;
@@ -19,9 +18,9 @@ fn read(number: u64, age: u8) -> Exact {
 
 #[test]
 fn numbers(rt: HostRuntime) {
-    assert_eq!(rt; scale_of::<Exact>(), SCALE);
-    assert_eq!(rt; grain_of::<Exact>(), 0);
-    assert_eq!(rt; reach_of::<Exact>(), 11);
+    assert_eq!(rt; Exact::SCALE, SCALE);
+    assert_eq!(rt; Exact::GRAIN, 0);
+    assert_eq!(rt; Exact::REACH, 11);
 }
 
 #[test]

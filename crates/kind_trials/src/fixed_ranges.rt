@@ -1,6 +1,5 @@
 // Fixed ranges.
 use crate::answers::{is_refused, is_value};
-use chance::constants::{grain_of, reach_of, scale_of};
 use chance::kind::Chance;
 use fixed::range::{Fixed, FixedRow};
 use folds::{best_of, mean_of};
@@ -14,9 +13,9 @@ fn read(lower: u32, upper: u32, age: u8) -> Fixed {
 
 #[test]
 fn numbers(rt: HostRuntime) {
-    assert_eq!(rt; scale_of::<Fixed>(), 1_000_000_000);
-    assert_eq!(rt; grain_of::<Fixed>(), 1);
-    assert_eq!(rt; reach_of::<Fixed>(), 60);
+    assert_eq!(rt; Fixed::SCALE, 1_000_000_000);
+    assert_eq!(rt; Fixed::GRAIN, 1);
+    assert_eq!(rt; Fixed::REACH, 60);
 }
 
 #[test]

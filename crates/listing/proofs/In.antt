@@ -49,6 +49,16 @@ down_in x f (suc n) k l m i =
       | inr h ↦ in_right x (f (suc n)) (down f n) (down_in x f n k l h i)
     ]
 
+-- what is given at some die and start
+pub in_moves : {X : Type 0} (x : X) (f : ℕ → ℕ → List X) → In x (down (λ d. down (f d) 25) 6) → (d : ℕ) × (s : ℕ) × In x (f d s)
+in_moves x f i =
+    let d = in_down x (λ d. down (f d) 25) 6 i in
+    let s = in_down x (f d.0) 25 d.3 in
+    (d.0, s.0, s.3)
+
+pub moves_in : {X : Type 0} (x : X) (f : ℕ → ℕ → List X) (d s : ℕ) → (1 ≤ d) × (d ≤ 6) → (1 ≤ s) × (s ≤ 25) → In x (f d s) → In x (down (λ d. down (f d) 25) 6)
+moves_in x f d s die start i = down_in x (λ d. down (f d) 25) 6 d die.0 die.1 (down_in x (f d) 25 s start.0 start.1 i)
+
 ordered-append : (xs ys : List (List Move)) → Ordered xs → Ordered ys → ((x y : List Move) → In x xs → In y ys → Earlier x y) → Ordered (xs ++ ys)
 ordered-append [] ys o p cross = p
 ordered-append (x ∷ xs) ys o p cross =

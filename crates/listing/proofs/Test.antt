@@ -1,10 +1,11 @@
 -- The test `may` decides `Legal`.
-use Rattle.std.proofs.Common.{◌≡◌, ℕ, ◌+◌, ◌-◌, ◌<◌, ◌≤◌, true, cond, ◌&&◌, ◌||◌, eqb, ltb, leb, List, length, get_or, drop, Decides, sum, inl, inr, arith, length-drop}
+use Rattle.std.proofs.Common.{◌≡◌, ℕ, ◌+◌, ◌-◌, ◌<◌, ◌≤◌, true, cond, ◌&&◌, ◌||◌, List, length, get_or, drop, Decides, sum, ◌==◌, nat_lt, nat_le, arith, length-drop}
 use Rattle.std.specs.List.{AllByRecursion}
 use Rattle.std.proofs.lemmas.List.{get_or-drop}
 use Rattle.std.proofs.lemmas.List.Sums.{get_or-le-sum_by}
 use Rattle.std.proofs.ByRecursion.{sum_by_le, All-from_get_or}
-use Rattle.std.proofs.lemmas.Bool.{eqb-true, eq-eqb, and_parts, and_from, or_cases, or_left, or_right, leb-true, ltb-true, le-leb, lt-ltb, le-ltb, cases_lt}
+use Rattle.std.proofs.lemmas.Bool.Decides.{nat_tests}
+use Rattle.std.proofs.lemmas.Bool.{eqb-true, eq-eqb}
 use Rattle.board.specs.Side.{on}
 use Rattle.board.specs.Position.{Position}
 use Rattle.board.specs.Single.{Legal}
@@ -30,50 +31,25 @@ clear_from side p l h =
 module _ (b : Position) (s d : ℕ) (l : length b.own ≡ 26) where
   to : may b s d ≡ true → Legal b s d
   to h =
-      let p1 = and_parts _ _ h in
-      let p2 = and_parts _ _ p1.0 in
-      let p3 = and_parts _ _ p2.0 in
-      let p4 = and_parts _ _ p3.0 in
-      let p5 = and_parts _ _ p4.0 in
-      let p6 = and_parts _ _ p5.0 in
-      let home : s ≤ d → (clear b.own 6 && (eqb s d || clear b.own s)) ≡ true = λ k. rw (le-ltb d s k) at p1.1 in
       record {
-        die = (leb-true 1 d p6.0, leb-true d 6 p6.1);
-        start = (leb-true 1 s p5.1, leb-true s 25 p4.1);
-        has = ltb-true 0 (on b.own s) p3.1;
-        bar = λ k. elim (or_cases _ _ p2.1) [ inl e ↦ absurd (omega (arith, eqb-true (on b.own 25) 0 e)) | inr e ↦ eqb-true s 25 e ];
-        free = λ k. leb-true (on b.other (25 - (s - d))) 1 (rw (lt-ltb d s k) at p1.1);
-        home = λ k. clear_true b.own 6 l (and_parts (clear b.own 6) (eqb s d || clear b.own s) (home k)).0;
-        far = λ k.
-            let k' : s ≤ d = omega arith in
-            elim (or_cases (eqb s d) (clear b.own s) (and_parts (clear b.own 6) (eqb s d || clear b.own s) (home k')).1) [ inl e ↦ absurd (omega (arith, eqb-true s d e)) | inr e ↦ clear_true b.own s l e ];
+        die = grind (arith, nat_tests);
+        start = grind (arith, nat_tests);
+        has = grind (arith, nat_tests);
+        bar = λ k. grind (arith, nat_tests);
+        free = λ k. grind (arith, nat_tests);
+        home = λ k. clear_true b.own 6 l (grind (arith, nat_tests));
+        far = λ k. clear_true b.own s l (grind (arith, nat_tests));
       }
 
   from : Legal b s d → may b s d ≡ true
   from g =
-      let bar : (eqb (on b.own 25) 0 || eqb s 25) ≡ true =
-      elim (cases_lt 0 (on b.own 25))
-      [ inl k ↦ or_right _ _ (eq-eqb s 25 (g.bar k)) | inr k ↦ or_left _ _ (eq-eqb (on b.own 25) 0 (omega arith)) ]
+      let six : s ≤ d → clear b.own 6 ≡ true = λ k. clear_from b.own 6 l (g.home k) in
+      let far : s < d → clear b.own s ≡ true = λ k. clear_from b.own s l (g.far k) in
+      let bar : (on b.own 25 == 0 || s == 25) ≡ true = grind (arith, nat_tests, g.bar) in
+      let last : cond (nat_lt d s) (nat_le (on b.other (25 - (s - d))) 1) (clear b.own 6 && (s == d || clear b.own s)) ≡ true =
+      grind (arith, nat_tests, six, far, g.free)
       in
-      let last : cond (ltb d s) (leb (on b.other (25 - (s - d))) 1) (clear b.own 6 && (eqb s d || clear b.own s)) ≡ true =
-      elim (cases_lt d s) [
-        | inl k ↦ rw (lt-ltb d s k) (le-leb (on b.other (25 - (s - d))) 1 (g.free k))
-        | inr k ↦
-            rw (le-ltb d s k)
-            (and_from _ _ (clear_from b.own 6 l (g.home k))
-            (elim (cases_lt s d)
-            [ inl m ↦ or_right _ _ (clear_from b.own s l (g.far m)) | inr m ↦ or_left _ _ (eq-eqb s d (omega arith)) ]))
-      ]
-      in
-      and_from _ _
-      (and_from _ _
-      (and_from _ _
-      (and_from _ _
-      (and_from _ _ (and_from _ _ (le-leb 1 d g.die.0) (le-leb d 6 g.die.1)) (le-leb 1 s g.start.0))
-      (le-leb s 25 g.start.1))
-      (lt-ltb 0 (on b.own s) g.has))
-      bar)
-      last
+      grind (arith, nat_tests, g.die, g.start, g.has, bar, last)
 
   pub decides : Decides (may b s d) (Legal b s d)
   decides = (to, from)

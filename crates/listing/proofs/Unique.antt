@@ -7,15 +7,7 @@ use Rattle.listing.specs.Listing.{In, Earlier, Ordered, Listing}
 apart : (t u : List Move) → Earlier t u → Earlier u t → ⊥
 apart [] u e f = e
 apart (m ∷ ms) [] e f = e
-apart (m ∷ ms) (n ∷ ns) (inl e) (inl f) = omega arith
-apart (m ∷ ms) (n ∷ ns) (inl e) (inr (inl f)) = omega arith
-apart (m ∷ ms) (n ∷ ns) (inl e) (inr (inr f)) = omega (arith, f.0)
-apart (m ∷ ms) (n ∷ ns) (inr (inl e)) (inl f) = omega arith
-apart (m ∷ ms) (n ∷ ns) (inr (inl e)) (inr (inl f)) = omega arith
-apart (m ∷ ms) (n ∷ ns) (inr (inl e)) (inr (inr f)) = omega (arith, f.1)
-apart (m ∷ ms) (n ∷ ns) (inr (inr e)) (inl f) = omega (arith, e.0)
-apart (m ∷ ms) (n ∷ ns) (inr (inr e)) (inr (inl f)) = omega (arith, e.1)
-apart (m ∷ ms) (n ∷ ns) (inr (inr e)) (inr (inr f)) = apart ms ns e.2 f.2
+apart (m ∷ ms) (n ∷ ns) e f = grind (arith, apart ms ns)
 
 same : (ts us : List (List Move)) → Ordered ts → Ordered us → ((t : List Move) → In t ts → In t us) → ((t : List Move) → In t us → In t ts) → ts ≡ us
 same [] [] o p f g = refl

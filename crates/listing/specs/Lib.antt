@@ -1,6 +1,5 @@
 pub mod Listing
 pub mod Order
-pub mod Moves
 pub mod Showing
 pub mod Laws
 pub mod Collecting

@@ -4,44 +4,36 @@ ghost use Rattle.board.specs.Position.{position};
 ghost use Rattle.turns.specs.Roll.{Roll};
 ghost use Rattle.listing.specs.Collecting.{Noted, Holding, Unlisted};
 
-use crate::collected::{Collected, NoListing};
 use crate::turn::Turn;
 use crate::visit::{Visit, visit_turns};
 use board::board::Board;
-use std::alloc::Global;
+use refusals::failure::Failure;
+use std::alloc::{AllocError, Global};
 
-impl Visit for Collected {
-    ghost step = { Noted };
+// Puts each turn behind those collected before; once memory fell short, nothing more is collected.
+#[derive(Debug, Drop)]
+struct Collect;
 
-    // Once memory fell short, nothing more is collected.
-    fn visit(self, turn: &Turn, _after: &Board) -> Collected {
-        let Collected { mut turns, short } = self;
-        if short {
-            return Collected { turns, short };
-        }
-        match turns.push(*turn) {
-            Ok(()) => Collected { turns, short },
-            Err(_) => Collected { turns, short: true },
-        }
+impl Visit for Collect {
+    type Sum = Result<Vec<Turn>, AllocError>;
+
+    ghost step = { λ _. Noted };
+
+    fn visit(&self, sum: Self::Sum, turn: &Turn, _after: &Board) -> Self::Sum {
+        let mut turns = sum?;
+        turns.push(*turn)?;
+        Ok(turns)
     }
 }
 
 // The allowed turns of the roll, in listing order.
-pub fn turns_of(heap: Global, b: &Board, roll: (u8, u8)) -> Result<Vec<Turn>, NoListing>
+// Stays: a heap is handed in wherever memory is needed, as the library does, and is no part of what it stands beside.
+pub fn turns_of(heap: Global, b: &Board, roll: (u8, u8)) -> Result<Vec<Turn>, Failure>
     ensures { MatchResult result (λ v. Roll roll.0 roll.1 × Holding (position b.now) roll.0 roll.1 v.items) (Unlisted roll.0 roll.1) }
 {
-    let none = Collected {
-        turns: Vec::new(heap),
-        short: false,
-    };
-    match visit_turns(b, roll, none) {
-        Err((refusal, _)) => Err(NoListing::Refused(refusal)),
-        Ok(all) => {
-            let Collected { turns, short } = all;
-            if short {
-                return Err(NoListing::NoMemory);
-            }
-            Ok(turns)
-        }
+    // Stays: a refused roll and want of memory part here; with `map_err` and a second `?` neither would be named.
+    match visit_turns(b, roll, &Collect, Ok(Vec::new(heap))) {
+        Ok(turns) => Ok(turns?),
+        Err((refusal, _)) => Err(refusal.into()),
     }
 }

@@ -2,6 +2,5 @@
 #![tactic(auto)]
 
 pub mod collect;
-pub mod collected;
 pub mod turn;
 pub mod visit;

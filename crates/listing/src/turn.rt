@@ -1,13 +1,4 @@
-// A turn that is stored.
-ghost use Rattle.std.specs.Prelude.{◌≡◌, ◌≤◌, length};
+// A turn that is stored: four moves at most.
+use board::moves::Moves;
 
-pub mod moves;
-
-// The first count of four moves, each a start and a die.
-#[derive(Clone, Copy)]
-pub struct Turn {
-    moves: [(u8, u8); 4],
-    count: usize,
-    ghost long: { length moves ≡ 4 },
-    ghost few: { count ≤ 4 },
-}
+pub type Turn = Moves<4>;

@@ -29,19 +29,7 @@ pub record Ranking (n : ℕ) (side : List ℕ) (p left before : ℕ) : Type 0 wh
   pub ranked : before + rank (p - 1) left (counts_from (p - 1) side) ≡ rank 6 n (counts side)
   pub small : before + 924 * p ≤ 924 * 7
 
-pub ranking_none : (n : ℕ) (side : List ℕ) → Ranking n side 7 n 0
-ranking_none n side = record { few = omega arith; summed = omega arith; ranked = omega arith; small = omega arith }
-
 module _ (n : ℕ) (side : List ℕ) (p left before : ℕ) (r : Ranking n side p left before) where
-  pub ranking_more : (w v : ℕ) → 1 ≤ p - 1 → on side (p - 1) ≤ left → w ≡ ways (p - 1) left → w ≤ 924 → v ≡ ways (p - 1) (left - on side (p - 1)) → Ranking n side (p - 1) (left - on side (p - 1)) (before + (w - v))
-  ranking_more w v i l e m f =
-      record {
-        few = omega (arith, r.few);
-        summed = omega (arith, r.summed, step_sum (p - 1) side i);
-        ranked = rw (e, f) (omega (arith, r.ranked, step (p - 1) left side i));
-        small = omega (arith, r.small);
-      }
-
   pub too_many : 1 ≤ p - 1 → left < on side (p - 1) → HomeFor n side → ⊥
   too_many i l h = omega (arith, r.summed, step_sum (p - 1) side i, few_counts n side h)
 

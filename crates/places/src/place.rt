@@ -1,52 +1,39 @@
 // The place of a side.
-ghost use Rattle.std.specs.Prelude.{◌≡◌, ℕ, ◌≤◌, sum};
+ghost use Rattle.std.specs.Prelude.{◌≡◌, ℕ, ◌≤◌};
 ghost use Rattle.board.specs.Side.{Complete};
 ghost use Rattle.places.specs.Asked.{Size, PlaceOf};
 
-use crate::ways::{MOST, ways_of};
-use board::side::CHECKERS;
-
-// The sum of a side's counts.
-fn total(side: &[u8; 26]) -> usize
-    ensures { result ≡ sum side.now }
-{
-    let mut total: usize = 0;
-    for c in side {
-        total += *c as usize;
-    }
-    total
-}
+use crate::ways::{count_of, ways_of};
+use board::side::{CHECKERS, total};
 
 // The place of a side from which no checker is missing.
+// Stays: a type for n from 1 to 6 would ask callers to make it, and public calls take any number.
 fn ranked(n: u8, side: &[u8; 26]) -> Option<usize>
     requires size { Size n }
     requires complete { Complete side.now }
     ensures { PlaceOf n side.now result }
 {
-    let mut left = n as usize;
+    let mut left = usize::from(n);
     let mut place: usize = 0;
+    // Stays: it goes over points 6 down to 1, in the order of places, and counts no index of a list.
     for p in (1..7).rev() {
-        let here = side[p] as usize;
-        if here > left {
-            return None;
-        }
-        place += ways_of(p, left) - ways_of(p, left - here);
-        left -= here;
+        let rest = left.checked_sub(usize::from(side[p]))?;
+        place += ways_of(p, left) - ways_of(p, rest);
+        left = rest;
     }
-    if side[0] as usize + (n as usize - left) != CHECKERS as usize {
+    if usize::from(side[0]) + (usize::from(n) - left) != usize::from(CHECKERS) {
         return None;
     }
     Some(place)
 }
 
 // The place of a home side with at most n checkers, for n from 1 to 6; none for any other side.
+// Stays: n belongs to the table and the side to the board, and one table is asked for many sides.
 pub fn place_of(n: u8, side: &[u8; 26]) -> Option<usize>
     ensures { PlaceOf n side.now result }
 {
-    if n < 1 || n > MOST {
-        return None;
-    }
-    if total(side) != CHECKERS as usize {
+    count_of(n)?;
+    if total(side) != usize::from(CHECKERS) {
         return None;
     }
     ranked(n, side)

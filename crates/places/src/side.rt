@@ -19,6 +19,7 @@ fn count_at(p: usize, left: usize, before: usize) -> usize
     ensures to { before + ways p (left - result) < ways p left + ways (p - 1) (left - result) }
 {
     let all = ways_of(p, left);
+    // Stays: for a chain the test has to be a function of its own with these three requires, and its answer needs four clauses.
     for c in 0..left {
         if before < all - ways_of(p, left - (c + 1)) {
             return c;
@@ -35,12 +36,14 @@ fn unranked(n: u8, place: usize) -> [u8; 26]
     ensures place { place ≡ place_of n result }
 {
     let mut side = [0; 26];
-    let mut left = n as usize;
+    let mut left = usize::from(n);
     let mut before = place;
+    // Stays: it goes over points 6 down to 1, in the order of places, and counts no index of a list.
     for p in (1..7).rev() {
         let here = count_at(p, left, before);
         before -= ways_of(p, left) - ways_of(p, left - here);
         left -= here;
+        // Stays: casts, here and below, since counts of at most 6 fit, and `try_from` would bring a failure that cannot come.
         side[p] = here as u8;
     }
     side[0] = CHECKERS - (n - left as u8);
@@ -51,20 +54,14 @@ fn unranked(n: u8, place: usize) -> [u8; 26]
 pub fn side_at(n: u8, place: usize) -> Option<[u8; 26]>
     ensures { SideAt n place result }
 {
-    match count_of(n) {
-        None => None,
-        Some(count) => {
-            if place >= count {
-                return None;
-            }
-            Some(unranked(n, place))
-        }
+    let count = count_of(n)?;
+    if place >= count {
+        return None;
     }
+    Some(unranked(n, place))
 }
 
 // The place of a side and the side at a place are inverse to each other.
-pub fn inverse_stands() -> u8
+pub fn inverse_stands()
     ensures { Inverse }
-{
-    0
-}
+{}

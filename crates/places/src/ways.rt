@@ -4,7 +4,7 @@ ghost use Rattle.places.specs.Ways.{ways};
 ghost use Rattle.places.specs.Asked.{CountOf};
 
 // How many checkers a side of a table may have.
-pub(crate) const MOST: u8 = 6;
+const MOST: u8 = 6;
 
 // A row for 0 to 6 points, in it at most 0 to 6 checkers.
 const WAYS: [[u16; 7]; 7] = [
@@ -23,7 +23,7 @@ pub(crate) fn ways_of(k: usize, n: usize) -> usize
     ensures is { result ≡ ways k n }
     ensures most { result ≤ 924 }
 {
-    WAYS[k][n] as usize
+    usize::from(WAYS[k][n])
 }
 
 // How many home sides with at most n checkers there are, for n from 1 to 6.
@@ -33,5 +33,5 @@ pub fn count_of(n: u8) -> Option<usize>
     if n < 1 || n > MOST {
         return None;
     }
-    Some(ways_of(6, n as usize))
+    Some(ways_of(6, usize::from(n)))
 }

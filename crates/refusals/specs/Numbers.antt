@@ -2,8 +2,8 @@
 use Rattle.std.specs.Prelude.{ℕ}
 use Rattle.refusals.specs.declared.reason.Reason.{Reason}
 use Rattle.refusals.specs.declared.reason.Reason.TheVariants.{MatchOver, WrongPhase, NotStandingOffer, DieOutOfRange, EqualOpeningDice, CrawfordGame, OthersCube, CubeAtLimit, LevelOutOfRange, TableSizeOutOfRange, WrongPartSize, OtherScale, TooManyMoves, NoSuchStartOrDie, IllegalMove, TooFewDice, SmallerDie, NotAnEnding, PastReach, WeightOutOfRange, SumNotFull, SumTooOld, MatchLengthOutOfRange, BoardRuleBroken, SheetTooLong, NoTrailer, NoSuchForm, LineOutOfPlace, WrongPlace, WrongPlayerOrDice, BufferTooShort, ReportBufferTooShort}
-use Rattle.refusals.specs.declared.reason.Layer.{Layer}
-use Rattle.refusals.specs.declared.reason.Layer.TheVariants.{Board, Match, Table, Sheet}
+use Rattle.refusals.specs.declared.layer.Layer.{Layer}
+use Rattle.refusals.specs.declared.layer.Layer.TheVariants.{Board, Match, Table, Sheet}
 
 -- 1 is the board, 2 the match, 3 the table of endings, 4 the sheet
 abbrev pub layer_number : Layer → ℕ

@@ -1,11 +1,13 @@
 // Why a call is refused: the closed list, in the order of its numbers.
 ghost use Rattle.std.specs.Prelude.{◌≡◌};
-ghost use Rattle.refusals.specs.Numbers.{number_of, layer_of, layer_number};
+ghost use Rattle.refusals.specs.Numbers.{number_of, layer_of};
+
+use crate::layer::Layer;
 
 #[derive(Clone, Copy, PartialEq, Eq, Debug)]
 pub enum Reason {
     // the match is over
-    MatchOver,
+    MatchOver = 1,
     // the call belongs to another phase
     WrongPhase,
     // the offer handed in is not the standing one
@@ -70,67 +72,13 @@ pub enum Reason {
     ReportBufferTooShort,
 }
 
-// Where a refusal belongs.
-#[derive(Clone, Copy, PartialEq, Eq, Debug)]
-pub enum Layer {
-    Board,
-    Match,
-    Table,
-    Sheet,
-}
-
-impl Layer {
-    pub fn number(self) -> u8
-        ensures { result ≡ layer_number self }
-    {
-        match self {
-            Layer::Board => 1,
-            Layer::Match => 2,
-            Layer::Table => 3,
-            Layer::Sheet => 4,
-        }
-    }
-}
-
 impl Reason {
     // The number by which documents and reports name the refusal.
     pub fn number(self) -> u8
         ensures { result ≡ number_of self }
     {
-        match self {
-            Reason::MatchOver => 1,
-            Reason::WrongPhase => 2,
-            Reason::NotStandingOffer => 3,
-            Reason::DieOutOfRange => 4,
-            Reason::EqualOpeningDice => 5,
-            Reason::CrawfordGame => 6,
-            Reason::OthersCube => 7,
-            Reason::CubeAtLimit => 8,
-            Reason::LevelOutOfRange => 9,
-            Reason::TableSizeOutOfRange => 10,
-            Reason::WrongPartSize => 11,
-            Reason::OtherScale => 12,
-            Reason::TooManyMoves => 13,
-            Reason::NoSuchStartOrDie => 14,
-            Reason::IllegalMove => 15,
-            Reason::TooFewDice => 16,
-            Reason::SmallerDie => 17,
-            Reason::NotAnEnding => 18,
-            Reason::PastReach => 19,
-            Reason::WeightOutOfRange => 20,
-            Reason::SumNotFull => 21,
-            Reason::SumTooOld => 22,
-            Reason::MatchLengthOutOfRange => 23,
-            Reason::BoardRuleBroken => 24,
-            Reason::SheetTooLong => 25,
-            Reason::NoTrailer => 26,
-            Reason::NoSuchForm => 27,
-            Reason::LineOutOfPlace => 28,
-            Reason::WrongPlace => 29,
-            Reason::WrongPlayerOrDice => 30,
-            Reason::BufferTooShort => 31,
-            Reason::ReportBufferTooShort => 32,
-        }
+        // Stays: the cast gives the number declared with the variant, as for the layers.
+        self as u8
     }
 
     pub fn layer(self) -> Layer

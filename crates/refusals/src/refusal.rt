@@ -4,8 +4,10 @@ ghost use Rattle.refusals.specs.Fields.{plain as plainly, refusal_at_move, field
 ghost use Rattle.refusals.specs.Closed.{ClosedList};
 
 use crate::reason::Reason;
+use std::fmt;
 
 // The reason, the game and turn in play, the number of the move at fault, and the place of the line at fault; 0 where there is none.
+// Stays: the 0 is what a report prints; an Option would be undone wherever the fields are asked or printed.
 #[derive(Clone, Copy, PartialEq, Eq, Debug)]
 pub struct Refusal {
     pub reason: Reason,
@@ -20,13 +22,7 @@ impl Refusal {
     pub fn plain(reason: Reason) -> Refusal
         ensures { result ≡ plainly reason }
     {
-        Refusal {
-            reason,
-            game: 0,
-            turn: 0,
-            nth: 0,
-            place: 0,
-        }
+        Refusal::at_move(reason, 0)
     }
 
     // Refused for the nth move of a turn, counted from 1.
@@ -46,9 +42,8 @@ impl Refusal {
     pub fn fields(self) -> (u8, u8, u32, u32, usize, usize)
         ensures { result ≡ fields_of self }
     {
-        let layer = self.reason.layer().number();
         (
-            layer,
+            self.reason.layer().number(),
             self.reason.number(),
             self.game,
             self.turn,
@@ -58,9 +53,20 @@ impl Refusal {
     }
 }
 
-// The list is closed: its numbers go from 1 to 32, and each names one reason.
-pub fn numbers_stand() -> u8
-    ensures { ClosedList }
-{
-    0
+// The fields, parted by a space.
+impl fmt::Display for Refusal {
+    ghost use Rattle.std.specs.Prelude.{Some};
+    ghost use Rattle.refusals.specs.Texts.{refusal_text};
+
+    ghost output = { λ refusal. Some (refusal_text refusal) };
+
+    fn fmt<W: fmt::Write>(&self, f: &mut fmt::Formatter<W>) -> fmt::Result {
+        let (layer, number, game, turn, nth, place) = self.fields();
+        write!(f, "{layer} {number} {game} {turn} {nth} {place}")
+    }
 }
+
+// The list is closed: its numbers go from 1 to 32, and each names one reason.
+pub fn numbers_stand()
+    ensures { ClosedList }
+{}

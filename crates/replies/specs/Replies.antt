@@ -1,14 +1,16 @@
 -- What each command is answered.
-use Rattle.std.specs.Prelude.{◌≡◌, ℕ, List, Ok, Err, vec_items}
+use Rattle.std.specs.Prelude.{◌≡◌, ℕ, List, Ok, Err, Result, vec_items}
 use Rattle.refusals.specs.declared.reason.Reason.TheVariants.{DieOutOfRange, BoardRuleBroken}
 use Rattle.refusals.specs.Fields.{plain}
+use Rattle.refusals.specs.declared.failure.Failure.{Failure}
+use Rattle.refusals.specs.declared.failure.Failure.TheVariants.{Refused as refused, NoMemory}
 use Rattle.board.specs.declared.player.Player.{Player}
+use Rattle.board.specs.Moves.{moves_of}
 use Rattle.board.specs.Position.{position}
 use Rattle.board.specs.Setup.{Rule}
 use Rattle.turns.specs.Roll.{Roll}
 use Rattle.turns.specs.Runs.{Move}
 use Rattle.listing.specs.Collecting.{Holding}
-use Rattle.fields.specs.Moves.{moves_of}
 use Rattle.commands.specs.declared.command.Command.{Command}
 use Rattle.commands.specs.declared.command.Command.TheVariants as asked
 use Rattle.settings.specs.declared.setting.Setting.{Setting}
@@ -43,6 +45,19 @@ PlayReply s x y turn Nothing = ⊥
 
 abbrev pub Replied : Setting → Command → Reply → Type 0
 Replied s (asked.Set p sides) r = SettingReply p sides.white sides.black r
-Replied s (asked.List x y) r = ListingReply s x y r
-Replied s (asked.Play x y moves) r = PlayReply s x y (moves_of moves) r
+Replied s (asked.List roll) r = ListingReply s roll.0 roll.1 r
+Replied s (asked.Play roll moves) r = PlayReply s roll.0 roll.1 (moves_of moves) r
 Replied s asked.Nothing r = r ≡ Nothing
+
+-- memory is needed for a listing alone
+abbrev pub NeedsMemory : Command → Type 0
+NeedsMemory (asked.Set p sides) = ⊥
+NeedsMemory (asked.List roll) = Roll roll.0 roll.1
+NeedsMemory (asked.Play roll moves) = ⊥
+NeedsMemory asked.Nothing = ⊥
+
+-- the reply where there is one, with a refusal handed on as a failure
+abbrev pub Answered : Setting → Command → Result Reply Failure → Type 0
+Answered s command (Ok r) = Replied s command r
+Answered s command (Err (refused e)) = Replied s command (Refused e)
+Answered s command (Err NoMemory) = NeedsMemory command

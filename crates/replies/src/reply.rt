@@ -1,17 +1,19 @@
 // The answer to a command.
-use fields::moves::Moves;
+use board::moves::Moves;
 use listing::turn::Turn;
 use refusals::refusal::Refusal;
 use settings::setting::Setting;
 
-#[derive(Drop)]
+// Stays: a refusal is an answer of `reply`, which is printed; so is nothing.
+// A rule of the project: rolls are pairs of numbers.
+#[derive(Debug, Drop)]
 pub enum Reply {
     // a board was set
     Placed(Setting),
     // the allowed turns of a roll
     Listed((u8, u8), Vec<Turn>),
     // a turn of a roll was made, and the other player is due
-    Made((u8, u8), Moves, Setting),
+    Made((u8, u8), Moves<8>, Setting),
     // the board stays as it was
     Refused(Refusal),
     // a comment or an empty line

@@ -27,25 +27,21 @@ impl Setting {
         ensures rule { Decides (is_ok result) (Rule white.now black.now) }
         ensures answer { MatchResult result (λ s. Shows s (arranged due white.now black.now)) (λ e. e ≡ plain BoardRuleBroken) }
     {
-        match due {
-            Player::White => match set_up(white, black) {
-                Ok(board) => Ok(Setting { due, board }),
-                Err(refusal) => Err(refusal),
-            },
-            Player::Black => match set_up(black, white) {
-                Ok(board) => Ok(Setting { due, board }),
-                Err(refusal) => Err(refusal),
-            },
-        }
+        let (own, other) = match due {
+            Player::White => (white, black),
+            Player::Black => (black, white),
+        };
+        set_up(own, other).map(|board| Setting { due, board })
     }
 
     // A player's side.
     pub fn side(&self, player: Player) -> &[u8; 26]
         ensures { result.now ≡ side_of self.now player }
     {
-        match (self.due, player) {
-            (Player::White, Player::White) | (Player::Black, Player::Black) => &self.board.own,
-            (Player::White, Player::Black) | (Player::Black, Player::White) => &self.board.other,
+        if player == self.due {
+            &self.board.own
+        } else {
+            &self.board.other
         }
     }
 }

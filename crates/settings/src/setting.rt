@@ -2,7 +2,7 @@
 use board::board::Board;
 use board::player::Player;
 
-#[derive(Clone, Copy)]
+#[derive(Clone, Copy, PartialEq, Eq, Debug)]
 pub struct Setting {
     pub due: Player,
     pub board: Board,

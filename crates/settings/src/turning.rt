@@ -13,12 +13,10 @@ impl Setting {
     pub fn make_turn(&self, roll: (u8, u8), turn: &[(u8, u8)]) -> Result<Setting, Refusal>
         ensures { PlayedOn self.now roll.0 roll.1 turn.now result }
     {
-        match check_turn(&self.board, roll, turn) {
-            Ok(after) => Ok(Setting {
-                due: self.due.other(),
-                board: turned(&after),
-            }),
-            Err(refusal) => Err(refusal),
-        }
+        let after = check_turn(&self.board, roll, turn)?;
+        Ok(Setting {
+            due: self.due.other(),
+            board: turned(&after),
+        })
     }
 }

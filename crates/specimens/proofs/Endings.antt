@@ -1,5 +1,5 @@
 -- Endings with one and two checkers on a side.
-use Rattle.std.proofs.Common.{◌≡◌, ℕ, ◌-◌, ◌*◌, ◌^◌, ◌<◌, List, [], ◌∷◌, length, sum, sym, refl, ap, ◌∙◌, inl, inr, arith, lit≤}
+use Rattle.std.proofs.Common.{◌≡◌, ℕ, ◌-◌, ◌*◌, ◌^◌, ◌<◌, None, List, [], ◌∷◌, length, sum, sym, refl, ap, ◌∙◌, inl, inr, arith, lit≤}
 use Rattle.board.specs.Side.{on, checkers}
 use Rattle.board.specs.Position.{Position}
 use Rattle.turns.specs.Roll.{Roll, rolled}
@@ -84,7 +84,7 @@ five_wins = (five-one, reckoned five_one 2 1116 31 36 five-one five-lasts (chanc
 pub four-length : Stands (lasting four_three 4)
 four-length = (four-two, four-lasts)
 
-in_listing : In ((4, 2) ∷ (3, 1) ∷ []) (turns 0 2 (at four two) (rolled 2 1))
+in_listing : In ((4, 2) ∷ (3, 1) ∷ []) (turns None 2 (at four two) (rolled 2 1))
 unfolding turns down
 in_listing = inl refl
 

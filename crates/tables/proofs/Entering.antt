@@ -11,6 +11,7 @@ use Rattle.endings.specs.Ending.{EndingFor}
 use Rattle.endings.specs.Length.{length_of, more}
 use Rattle.endings.specs.Rolls.{TwoDice, rolls, weight}
 use Rattle.endings.specs.Place.{place, places_of}
+use Rattle.endings.proofs.Lists.{map_same}
 use Rattle.endings.proofs.Lengths.{sound}
 use Rattle.endings.proofs.Rolls.{rolls-fine}
 use Rattle.endings.proofs.Short.{length_short}
@@ -25,7 +26,7 @@ use Rattle.tables.specs.Led.{facing, places_led_to}
 use Rattle.tables.specs.Sums.{sum_over, settled, entry_length, entry_value}
 use Rattle.tables.specs.Filled.{tabled, tabled_length, ValuesBelow, Below, EntryOf, SoundEntry, SoundBest}
 use Rattle.tables.proofs.Visiting.{map_twice}
-use Rattle.tables.proofs.Linked.{map_same, led_alike, after_linked, length_linked}
+use Rattle.tables.proofs.Linked.{led_alike, after_linked, length_linked}
 
 module _ (n : ℕ) (p : Position) (e : EndingFor n p) where
   pub length-best : (lengths : List ℕ) (r : TwoDice) → Roll r.0 r.1 → most_length (places_of n) lengths (place n p.other) (places_led_to n p r) ≡ greatest (map (more (tabled_length n lengths) p) (listed p r.0 r.1))
@@ -34,7 +35,7 @@ module _ (n : ℕ) (p : Position) (e : EndingFor n p) where
       (sym (map_twice _ _ (listed p r.0 r.1))
       ∙ map_same _ _ (listed p r.0 r.1) (λ t i. length_linked n p r.0 r.1 t e roll ((listed_is p r.0 r.1 (sound p e.ending)).only t i) lengths))
 
-  module _ {V S R A B C : Type 0} (k : Ghosts V S R A B C) (rows : List R) where
+  module _ {V S R : Type 0} (k : Ghosts V S R) (rows : List R) where
     pub best_linked : (r : TwoDice) → Roll r.0 r.1 → best_place k (places_of n) rows (place n p.other) (places_led_to n p r) ≡ best_value k (tabled k n rows) p r
     best_linked r roll =
         ap (best_from_first k)
@@ -63,35 +64,35 @@ length-entered n p lengths six e below =
     in
     omega (arith, ap greatest by, length_from (tabled_length n lengths) p e.ending below, length_short n p e)
 
-module _ {V S R A B C : Type 0} (k : Ghosts V S R A B C) (n : ℕ) (p : Position) (e : EndingFor n p) (rows : List R) (below : ValuesBelow k n p rows) where
+module _ {V S R : Type 0} (k : Ghosts V S R) (n : ℕ) (p : Position) (e : EndingFor n p) (rows : List R) (below : ValuesBelow k n p rows) where
   pub best-entered : (r : TwoDice) → Roll r.0 r.1 → best_place k (places_of n) rows (place n p.other) (places_led_to n p r) ≡ best_value k (value_entry k) p r
   best-entered r roll = best_linked n p e k rows r roll ∙ best_alike k (tabled k n rows) (value_entry k) p r.0 r.1 e.ending roll below
 
-  full_settled : (s : S) (v : V) → k.weight s ≡ 36 → k.oldest s < k.reach → k.closed s ≡ v → settled k (places_of n) rows (place n p.other) s ≡ v
-  full_settled s v w o c = let a = le-leb 36 (k.weight s) (omega arith) in let b = lt-ltb (k.oldest s) k.reach o in rw (a, b) c
+  full_settled : (s : S) (v : V) → k.weight s ≡ 36 → k.oldest s < k.REACH → k.closed s ≡ v → settled k (places_of n) rows (place n p.other) s ≡ v
+  full_settled s v w o c = let a = le-leb 36 (k.weight s) (omega arith) in let b = lt-ltb (k.oldest s) k.REACH o in rw (a, b) c
 
   value_entered : entry_value k (places_of n) rows (place n p.other) (length_of p) (map (places_led_to n (facing p.own)) rolls) ≡ value_entry k p
   unfolding entry_value
   value_entered =
-      elim (cases_lt k.reach (length_of p)) [
-        | inl o ↦ (let z = lt-leb (length_of p) k.reach o in rw z (sym (past k p e.ending o)))
+      elim (cases_lt k.REACH (length_of p)) [
+        | inl o ↦ (let z = lt-leb (length_of p) k.REACH o in rw z (sym (past k p e.ending o)))
         | inr o ↦
-            (let z = le-leb (length_of p) k.reach o in
+            (let z = le-leb (length_of p) k.REACH o in
             let sum = sum_linked n p e k rows ∙ sum_alike k (tabled k n rows) (value_entry k) p e.ending below in
             let held = summed k (value_entry k) p e.ending (others k p o) o in
             rw (z, sum) (full_settled (sum_value k (value_entry k) p) (value_entry k p) held.full held.young (sym (step k p e.ending o))))
       ]
 
-pub entry_of : {V S R A B C : Type 0} (k : Ghosts V S R A B C) (n : ℕ) (p : Position) (lengths : List ℕ) (rows : List R) (r : ℕ × V) → n ≤ 6 → EndingFor n p → Below k n p lengths rows → r ≡ (entry_length (places_of n) lengths (place n p.other) (map (places_led_to n (facing p.own)) rolls), entry_value k (places_of n) rows (place n p.other) (entry_length (places_of n) lengths (place n p.other) (map (places_led_to n (facing p.own)) rolls)) (map (places_led_to n (facing p.own)) rolls)) → EntryOf k p r
+pub entry_of : {V S R : Type 0} (k : Ghosts V S R) (n : ℕ) (p : Position) (lengths : List ℕ) (rows : List R) (r : ℕ × V) → n ≤ 6 → EndingFor n p → Below k n p lengths rows → r ≡ (entry_length (places_of n) lengths (place n p.other) (map (places_led_to n (facing p.own)) rolls), entry_value k (places_of n) rows (place n p.other) (entry_length (places_of n) lengths (place n p.other) (map (places_led_to n (facing p.own)) rolls)) (map (places_led_to n (facing p.own)) rolls)) → EntryOf k p r
 entry_of k n p lengths rows r six e below is =
     let long = length-entered n p lengths six e below.long in
     let value = ap (λ q. q.1) is ∙ ap (λ m. entry_value k (places_of n) rows (place n p.other) m (map (places_led_to n (facing p.own)) rolls)) long ∙ value_entered k n p e rows below.values in
     record { length = ap (λ q. q.0) is ∙ long; value = value; holds = λ o. subst (Entered k p) (sym value) (entered k p e.ending o) }
 
-pub sound-entry : {V S R A B C : Type 0} (k : Ghosts V S R A B C) (size b : ℕ) (lists : List (List ℕ)) (lengths : List ℕ) (rows : List R) (r : ℕ × V) → r ≡ (entry_length size lengths b lists, entry_value k size rows b (entry_length size lengths b lists) lists) → SoundEntry k size b lists lengths rows r
+pub sound-entry : {V S R : Type 0} (k : Ghosts V S R) (size b : ℕ) (lists : List (List ℕ)) (lengths : List ℕ) (rows : List R) (r : ℕ × V) → r ≡ (entry_length size lengths b lists, entry_value k size rows b (entry_length size lengths b lists) lists) → SoundEntry k size b lists lengths rows r
 sound-entry k size b lists lengths rows r is n p six e s o l below = entry_of k n p lengths rows r six e below (rw (s, o, l) at is)
 
-pub sound-best : {V S R A B C : Type 0} (k : Ghosts V S R A B C) (n : ℕ) (p : Position) (r : TwoDice) (rows : List R) (v : V) → EndingFor n p → Roll r.0 r.1 → v ≡ best_place k (places_of n) rows (place n p.other) (places_led_to n p r) → SoundBest k n p r rows v
+pub sound-best : {V S R : Type 0} (k : Ghosts V S R) (n : ℕ) (p : Position) (r : TwoDice) (rows : List R) (v : V) → EndingFor n p → Roll r.0 r.1 → v ≡ best_place k (places_of n) rows (place n p.other) (places_led_to n p r) → SoundBest k n p r rows v
 sound-best k n p r rows v e roll is =
     record {
       value = λ below. is ∙ best-entered k n p e rows below r roll;

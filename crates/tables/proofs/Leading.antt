@@ -1,30 +1,61 @@
--- The places that are collected from a list of turns, and from the rolls one by one.
-use Rattle.std.proofs.Common.{◌≡◌, ℕ, ◌+◌, ◌<◌, false, List, [], ◌∷◌, ◌++◌, map, length, get_or, take, vec_items, sym, ap, ◌∙◌, append_assoc, append-nil}
-use mathlib.Core.List.{map-append}
-use Rattle.std.proofs.lemmas.List.{take_more}
+-- The places that are collected from a list of turns.
+use Rattle.std.proofs.Common.{◌≡◌, ℕ, zero, suc, ◌<◌, List, [], ◌∷◌, ◌++◌, map, length, get_or, Ok, Err, Result, IfOk, Vec, vec_items, refl, ap, ◌∙◌, append_assoc, append-nil, inl, inr, arith}
+use Rattle.std.specs.declared.alloc.AllocError.{AllocError}
+use Rattle.std.specs.declared.alloc.Global.{Global}
 use Rattle.board.specs.Position.{Position}
+use Rattle.turns.specs.Roll.{Roll, rolled}
 use Rattle.turns.specs.Runs.{Move, played}
+use Rattle.listing.specs.Listing.{In}
+use Rattle.listing.specs.Order.{listed}
 use Rattle.listing.specs.Showing.{Shown}
+use Rattle.listing.proofs.Listed.{listed_is}
+use Rattle.endings.specs.Ending.{HomeFor}
 use Rattle.endings.specs.Place.{place}
-use Rattle.tables.specs.declared.led.Led.{Led}
-use Rattle.tables.specs.Led.{Kept}
+use Rattle.endings.specs.Rolls.{rolls}
+use Rattle.endings.proofs.Falls.{run_for}
+use Rattle.endings.proofs.HomePlaces.{below}
+use Rattle.endings.proofs.Rolls.{rolls-fine}
+use Rattle.places.specs.Asked.{Size}
+use Rattle.places.proofs.Table.{at_table, all_ways}
+use Rattle.tables.specs.Led.{Kept, places_led_to}
 
--- where none is missing at the end none was all along, and the places stand in their order
-pub all_kept : (b : Position) (v w : Led) (ts : List (List Move)) → Shown Kept [] b v ts w → w.short ≡ false → (v.short ≡ false) × (vec_items w.places ≡ vec_items v.places ++ map (λ t. place v.n (played b t).own) ts)
-all_kept b v w [] e s = (sym (ap (λ (x : Led). x.short) e) ∙ s, ap (λ (x : Led). vec_items x.places) e ∙ sym (append-nil (vec_items v.places)))
-all_kept b v w (t ∷ ts) r s =
-    let u = r.0 in
-    let later = all_kept b u w ts r.2 s in
-    let here = r.1 later.0 in
-    let same : map (λ t. place u.n (played b t).own) ts ≡ map (λ t. place v.n (played b t).own) ts = ap (λ n. map (λ t. place n (played b t).own) ts) here.1 in (
-      here.0,
-      later.1
-          ∙ ap (λ xs. xs ++ map (λ t. place u.n (played b t).own) ts) here.2
-          ∙ append_assoc (vec_items v.places) (place v.n (played b t).own ∷ []) (map (λ t. place u.n (played b t).own) ts)
-          ∙ ap (λ xs. vec_items v.places ++ (place v.n (played b t).own ∷ xs)) same,
-    )
+-- a place fits 16 bits
+pub place_fits : (n : ℕ) (side : List ℕ) → Size n → HomeFor n side → place n side < 924
+place_fits n side s h = omega (arith, below n side h, at_table 6 n (omega arith) s.1, all_ways n)
 
--- one more of a list that is made element by element
-pub made_more : {X Y Z : Type 0} (f : X → Z) (g : Y → Z) (xs : List X) (x : X) (ys : List Y) (i : ℕ) (d : Y) → i < length ys → map f xs ≡ map g (take i ys) → f x ≡ g (get_or ys i d) → map f (xs ++ (x ∷ [])) ≡ map g (take (i + 1) ys)
-made_more f g xs x ys i d l e h =
-    map-append f xs (x ∷ []) ∙ ap (λ zs. zs ++ (f x ∷ [])) e ∙ ap (λ z. map g (take i ys) ++ (z ∷ [])) h ∙ sym (map-append g (take i ys) (get_or ys i d ∷ [])) ∙ ap (map g) (sym (take_more ys i d l))
+rolls_long : length rolls ≡ 21
+unfolding rolls
+rolls_long = refl
+
+in_at : {X : Type 0} (xs : List X) (i : ℕ) (d : X) → i < length xs → In (get_or xs i d) xs
+in_at [] i d l = absurd (omega arith)
+in_at (x ∷ xs) zero d l = inl refl
+in_at (x ∷ xs) (suc i) d l = inr (in_at xs i d (omega arith))
+
+-- each of the rolls is one of two dice
+pub roll_fine : (i : ℕ) (d : ℕ × ℕ) → i < 21 → Roll (get_or rolls i d).0 (get_or rolls i d).1
+roll_fine i d l = rolls-fine (get_or rolls i d) (in_at rolls i d (omega (arith, rolls_long)))
+
+module _ (n : ℕ) (b : Position) (size : Size n) where
+  abbrev Homes : List (List Move) → Type 0
+  Homes ts = (t : List Move) → In t ts → HomeFor n (played b t).own
+
+  -- once memory fell short, it stays so
+  none_after : (e : AllocError) (last : Vec ℕ Global) (ts : List (List Move)) → Shown (Kept n) [] b (Err e) ts (Ok last) → ⊥
+  none_after e last [] r = grind arith
+  none_after e last (t ∷ ts) (Ok u, no', r) = no'
+  none_after e last (t ∷ ts) (Err f, _, r) = none_after f last ts r
+
+  -- where it sufficed to the end, the places stand in their order
+  all_kept : (first last : Vec ℕ Global) (ts : List (List Move)) → Homes ts → Shown (Kept n) [] b (Ok first) ts (Ok last) → vec_items last ≡ vec_items first ++ map (λ t. place n (played b t).own) ts
+  all_kept first last [] homes r = grind (arith, append-nil (vec_items first))
+  all_kept first last (t ∷ ts) homes (Ok now, kept, r) =
+      let rest = map (λ t. place n (played b t).own) ts in
+      all_kept now last ts (λ u i. homes u (inr i)) r ∙ ap (λ xs. xs ++ rest) (kept size (homes t (inl refl))) ∙ append_assoc (vec_items first) (place n (played b t).own ∷ []) rest
+  all_kept first last (t ∷ ts) homes (Err e, _, r) = absurd (none_after e last ts r)
+
+  pub led : (x y : ℕ) (first : Vec ℕ Global) (r : Result (Vec ℕ Global) AllocError) → HomeFor n b.own → first.items ≡ [] → Shown (Kept n) [] b (Ok first) (listed b x y) r → IfOk r (λ v. v.items ≡ places_led_to n b (x, y))
+  led x y first (Err e) h none shown = tt
+  led x y first (Ok last) h none shown =
+      let homes : Homes (listed b x y) = λ t i. run_for n b (rolled x y) t h ((listed_is b x y (record { long = h.home.long; complete = h.home.complete })).only t i).0 in
+      all_kept first last (listed b x y) homes shown ∙ ap (λ xs. xs ++ places_led_to n b (x, y)) none

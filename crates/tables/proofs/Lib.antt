@@ -1,4 +1,5 @@
-pub mod Taken
+pub mod Reducing
+pub mod Reading
 pub mod Summing
 pub mod Leading
 pub mod Visiting

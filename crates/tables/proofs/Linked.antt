@@ -1,5 +1,5 @@
 -- Places and positions tell the same values.
-use Rattle.std.proofs.Common.{◌≡◌, ℕ, ◌<◌, true, false, eqb, List, [], ◌∷◌, map, length, refl, ap, ◌∙◌, inl, inr, arith}
+use Rattle.std.proofs.Common.{◌≡◌, ℕ, ◌<◌, true, false, eqb, List, map, length, refl, ap, ◌∙◌, inl, inr, arith}
 use Rattle.std.proofs.lemmas.List.Sums.{get_or-le-sum_by}
 use Rattle.std.proofs.lemmas.Bool.{cases_Bool, eqb-true, eqb-false, ne_eqb}
 use Rattle.board.specs.Side.{on, checkers}
@@ -7,7 +7,6 @@ use Rattle.board.specs.Position.{Position}
 use Rattle.turns.specs.Roll.{Roll, rolled}
 use Rattle.turns.specs.Runs.{Move, played}
 use Rattle.turns.specs.Turns.{Allowed}
-use Rattle.listing.specs.Listing.{In}
 use Rattle.listing.specs.Order.{off, listed}
 use Rattle.listing.proofs.Some.{some_allowed}
 use Rattle.chance.specs.declared.kind.Chance.{Ghosts}
@@ -15,6 +14,7 @@ use Rattle.endings.specs.Ending.{Home, HomeFor, Ending, EndingFor}
 use Rattle.endings.specs.Length.{more}
 use Rattle.endings.specs.Rolls.{TwoDice}
 use Rattle.endings.specs.Place.{place, places_of}
+use Rattle.endings.proofs.Lists.{map_same}
 use Rattle.endings.proofs.HomePlaces.{first}
 use Rattle.endings.proofs.Falls.{turn_for, turn_falls}
 use Rattle.endings.proofs.Leads.{leads}
@@ -24,10 +24,6 @@ use Rattle.values.specs.Best.{after_value}
 use Rattle.tables.specs.Parts.{value_after, length_after}
 use Rattle.tables.specs.Led.{facing, places_led_to}
 use Rattle.tables.specs.Filled.{tabled, tabled_length}
-
-pub map_same : {X Y : Type 0} (f g : X → Y) (xs : List X) → ((x : X) → In x xs → f x ≡ g x) → map f xs ≡ map g xs
-map_same f g [] e = refl
-map_same f g (x ∷ xs) e = rw (e x (inl refl), map_same f g xs (λ y i. e y (inr i)))
 
 -- a side that is not empty has fewer checkers off than it has
 pub unfinished : (side : List ℕ) → Home side → (on side 0 ≡ checkers → ⊥) → on side 0 < checkers
@@ -57,7 +53,7 @@ module _ (n : ℕ) (p : Position) (x y : ℕ) (t : List Move) (e : EndingFor n p
   at_on : off (played p t) ≡ false → eqb (place n (played p t).own) 0 ≡ false
   at_on o = ne_eqb _ 0 (λ z. omega (arith, z, some_place n (played p t).own (turn_for n p x y t e roll a) (eqb-false _ checkers o)))
 
-  pub after_linked : {V S R A B C : Type 0} (k : Ghosts V S R A B C) (rows : List R) → value_after k (places_of n) rows (place n p.other) (place n (played p t).own) ≡ after_value k (tabled k n rows) p t
+  pub after_linked : {V S R : Type 0} (k : Ghosts V S R) (rows : List R) → value_after k (places_of n) rows (place n p.other) (place n (played p t).own) ≡ after_value k (tabled k n rows) p t
   after_linked k rows =
       elim (cases_Bool (off (played p t)))
       [ inl o ↦ (let z = at_off o in rw (z, o)) | inr o ↦ (let z = at_on o in rw (z, o, same_other)) ]

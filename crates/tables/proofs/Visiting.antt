@@ -1,5 +1,6 @@
 -- The best of the turns that are shown one after another.
-use Rattle.std.proofs.Common.{◌≡◌, true, false, List, [], ◌∷◌, map, fold, refl, ap, ◌∙◌, subst, inl, inr}
+use Rattle.std.proofs.Common.{◌≡◌, List, [], ◌∷◌, map, fold, true, Some, None, Ok, Err, Option, Result, MatchResult, unwrap_or, refl, ap, subst, inl, inr, arith}
+use Rattle.std.specs.Result.{is_ok}
 use Rattle.board.specs.Position.{Position}
 use Rattle.turns.specs.Runs.{Move, played}
 use Rattle.listing.specs.Listing.{In}
@@ -15,18 +16,21 @@ pub map_twice : {X Y Z : Type 0} (f : Y → Z) (g : X → Y) (xs : List X) → m
 map_twice f g [] = refl
 map_twice f g (x ∷ xs) = ap (λ zs. f (g x) ∷ zs) (map_twice f g xs)
 
-module _ {V S R A B C : Type 0} (k : Ghosts V S R A B C) where
-  module _ (b : Position) where
-    later : (v w : Best V S R A B C) (ts : List (List Move)) → v.some ≡ true → Size v.n → ((t : List Move) → In t ts → HomeFor v.n (played b t).own) → Shown (Bettered k) [] b v ts w → w.best ≡ fold k.better v.best (map (λ t. shown_value k v (played b t)) ts)
-    later v w [] some size each r = ap (λ (u : Best V S R A B C). u.best) r
-    later v w (t ∷ ts) some size each r =
-        let next : Best V S R A B C = record { n = v.n; size = v.size; other = v.other; rows = v.rows; some = true; best = k.better v.best (shown_value k v (played b t)) } in
-        let e : r.0 ≡ next = rw some at (r.1 size (each t (inl refl))) in
-        later next w ts refl size (λ u i. each u (inr i)) (subst (λ u. Shown (Bettered k) [] b u ts w) e r.2)
+module _ {V S R : Type 0} (k : Ghosts V S R) (b : Position) (v : Best V S R) (size : Size v.n) where
+  abbrev Homes : List (List Move) → Type 0
+  Homes ts = (t : List Move) → In t ts → HomeFor v.n (played b t).own
 
-    pub best-shown : (v w : Best V S R A B C) (ts : List (List Move)) → v.some ≡ false → v.best ≡ k.lost → Size v.n → ((t : List Move) → In t ts → HomeFor v.n (played b t).own) → Shown (Bettered k) [] b v ts w → w.best ≡ best_from_first k (map (λ t. shown_value k v (played b t)) ts)
-    best-shown v w [] some lost size each r = ap (λ (u : Best V S R A B C). u.best) r ∙ lost
-    best-shown v w (t ∷ ts) some lost size each r =
-        let next : Best V S R A B C = record { n = v.n; size = v.size; other = v.other; rows = v.rows; some = true; best = shown_value k v (played b t) } in
-        let e : r.0 ≡ next = rw some at (r.1 size (each t (inl refl))) in
-        later next w ts refl size (λ u i. each u (inr i)) (subst (λ u. Shown (Bettered k) [] b u ts w) e r.2)
+  later : (best : V) (w : Option V) (ts : List (List Move)) → Homes ts → Shown (Bettered k v) [] b (Some best) ts w → w ≡ Some (fold k.better best (map (λ t. shown_value k v (played b t)) ts))
+  later best w [] each r = r
+  later best w (t ∷ ts) each r =
+      later (k.better best (shown_value k v (played b t))) w ts (λ u i. each u (inr i)) (subst (λ s. Shown (Bettered k v) [] b s ts w) (r.1 size (each t (inl refl))) r.2)
+
+  pub best-shown : (w : Option V) (ts : List (List Move)) → Homes ts → Shown (Bettered k v) [] b None ts w → unwrap_or w k.lost ≡ best_from_first k (map (λ t. shown_value k v (played b t)) ts)
+  best-shown w [] each r = ap (λ s. unwrap_or s k.lost) r
+  best-shown w (t ∷ ts) each r =
+      ap (λ s. unwrap_or s k.lost) (later (shown_value k v (played b t)) w ts (λ u i. each u (inr i)) (subst (λ s. Shown (Bettered k v) [] b s ts w) (r.1 size (each t (inl refl))) r.2))
+
+-- what is answered with another error was answered
+pub answered : {T E : Type 0} (F : Type 0) (r : Result T E) (w : T) (P : E → Type 0) → MatchResult r (λ v. ◌≡◌ {A = Result T F} (Ok w) (Ok v)) P → true ≡ is_ok r → r ≡ Ok w
+answered F (Ok v) w P h e = grind (arith, h)
+answered F (Err f) w P h e = absurd (grind (arith, e))

@@ -22,7 +22,7 @@ pub record Square {R : Type 0} (n : ℕ) (lengths : List ℕ) (rows : List R) : 
   pub long : length lengths ≡ places_of n * places_of n
   pub wide : length rows ≡ places_of n * places_of n
 
-module _ {V S R A B C : Type 0} (k : Ghosts V S R A B C) (n : ℕ) (own other lengths : List ℕ) (rows : List R) where
+module _ {V S R : Type 0} (k : Ghosts V S R) (n : ℕ) (own other lengths : List ℕ) (rows : List R) where
   abbrev pub length_asked : ℕ
   length_asked = length_at (places_of n) lengths (place n (counts_with_off own)) (place n (counts_with_off other))
 
@@ -34,7 +34,7 @@ module _ {V S R A B C : Type 0} (k : Ghosts V S R A B C) (n : ℕ) (own other le
     pub size : Size n
     pub square : Square n lengths rows
     pub asked : AskedEnding n own other
-    pub within : length_asked ≤ k.reach
+    pub within : length_asked ≤ k.REACH
     pub ends : r ≡ (k.lower value_asked, k.upper value_asked, k.age value_asked)
 
   -- why there is no answer, in checking order
@@ -43,4 +43,4 @@ module _ {V S R A B C : Type 0} (k : Ghosts V S R A B C) (n : ℕ) (own other le
       Refuse (Size n → ⊥) (plain TableSizeOutOfRange)
       (Refuse (Square n lengths rows → ⊥) (plain WrongPartSize)
       (Refuse (AskedEnding n own other → ⊥) (plain NotAnEnding)
-      (Refuse (k.reach < length_asked) (plain PastReach) Accept)))
+      (Refuse (k.REACH < length_asked) (plain PastReach) Accept)))

@@ -17,7 +17,7 @@ use Rattle.tables.specs.Led.{facing, places_led_to}
 abbrev pub tabled_length : ℕ → List ℕ → Position → ℕ
 tabled_length n lengths q = length_at (places_of n) lengths (place n q.own) (place n q.other)
 
-module _ {V S R A B C : Type 0} (k : Ghosts V S R A B C) where
+module _ {V S R : Type 0} (k : Ghosts V S R) where
   -- the value that a table for n checkers has at a position
   abbrev pub tabled : ℕ → List R → Position → V
   tabled n rows q = value_in k (places_of n) rows (place n q.own) (place n q.other)
@@ -35,7 +35,7 @@ module _ {V S R A B C : Type 0} (k : Ghosts V S R A B C) where
   pub record EntryOf (p : Position) (r : ℕ × V) : Type 0 where
     pub length : r.0 ≡ length_of p
     pub value : r.1 ≡ value_entry k p
-    pub holds : length_of p ≤ k.reach → Entered k p r.1
+    pub holds : length_of p ≤ k.REACH → Entered k p r.1
 
   -- over parts that have the defined entries at the endings to which p leads, the entry of p is the defined one
   abbrev pub SoundEntry : ℕ → ℕ → List (List ℕ) → List ℕ → List R → ℕ × V → Type 0
@@ -45,4 +45,4 @@ module _ {V S R A B C : Type 0} (k : Ghosts V S R A B C) where
   -- and the best of a roll is the best over the defined entries, which holds the roll's exact best
   pub record SoundBest (n : ℕ) (p : Position) (r : TwoDice) (rows : List R) (v : V) : Type 0 where
     pub value : ValuesBelow n p rows → v ≡ best_value k (value_entry k) p r
-    pub holds : ValuesBelow n p rows → length_of p ≤ k.reach → Younger k p (λ m. best (36 ^ m) (chance m) p r) v
+    pub holds : ValuesBelow n p rows → length_of p ≤ k.REACH → Younger k p (λ m. best (36 ^ m) (chance m) p r) v

@@ -14,7 +14,7 @@ use Rattle.places.specs.Asked.{Size}
 use Rattle.tables.specs.Parts.{best_place}
 use Rattle.tables.specs.Led.{places_led_to}
 
-module _ {V S R A B C : Type 0} (k : Ghosts V S R A B C) (n : ℕ) (p : Position) (r : TwoDice) (rows : List R) where
+module _ {V S R : Type 0} (k : Ghosts V S R) (n : ℕ) (p : Position) (r : TwoDice) (rows : List R) where
   -- the best of the roll in an ending for n
   pub record RollBest (v : V) : Type 0 where
     pub roll : Roll r.0 r.1

@@ -9,11 +9,11 @@ use Rattle.chance.specs.Held.{Held}
 abbrev pub minus : Fraction → Fraction → Fraction
 minus p q = record { num = p.num * q.den - q.num * p.den; den = p.den * q.den; above = mul-pos p.above q.above }
 
-module _ {V S R A B C : Type 0} (k : Ghosts V S R A B C) (best after : V) where
-  -- lower end: the best's lower less the after-value's upper; upper end: the best's upper less its lower; a negative is 0
+module _ {V S R : Type 0} (k : Ghosts V S R) (best after : V) where
+  -- at least what the best has for certain above what the after-value may have, at most the other way round, and nothing below 0
   abbrev pub ends_of_loss : ℕ × ℕ
   ends_of_loss = (k.lower best - k.upper after, k.upper best - k.lower after)
 
   -- where the best and the after-value hold their chances, the loss holds what the one is more than the other
   abbrev pub LossHeld : ℕ × ℕ → Type 0
-  LossHeld r = (p q : Fraction) → Held k best p → Held k after q → Holds k.scale r.0 r.1 (minus p q)
+  LossHeld r = (p q : Fraction) → Held k best p → Held k after q → Holds k.SCALE r.0 r.1 (minus p q)

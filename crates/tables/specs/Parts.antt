@@ -16,7 +16,7 @@ length_after size lengths b q = cond (q == 0) 0 (length_at size lengths b q)
 abbrev pub most_length : ℕ → List ℕ → ℕ → List ℕ → ℕ
 most_length size lengths b qs = greatest (map (length_after size lengths b) qs)
 
-module _ {V S R A B C : Type 0} (k : Ghosts V S R A B C) where
+module _ {V S R : Type 0} (k : Ghosts V S R) where
   -- the value that the row of an entry is read as, lost past the end of the part
   abbrev pub value_in : ℕ → List R → ℕ → ℕ → V
   value_in size rows a b = k.read (slice_index_or rows (a * size + b) (k.written k.lost))

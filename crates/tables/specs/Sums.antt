@@ -9,7 +9,7 @@ use Rattle.tables.specs.Parts.{most_length, best_place}
 unfoldable pub entry_length : ℕ → List ℕ → ℕ → List (List ℕ) → ℕ
 entry_length size lengths b lists = min 255 (suc (greatest (map (most_length size lengths b) lists)))
 
-module _ {V S R A B C : Type 0} (k : Ghosts V S R A B C) (size : ℕ) (rows : List R) (b : ℕ) where
+module _ {V S R : Type 0} (k : Ghosts V S R) (size : ℕ) (rows : List R) (b : ℕ) where
   -- the best of each roll, added by the roll's weight
   abbrev pub sum_over : S → List TwoDice → List (List ℕ) → S
   sum_over s [] ts = s
@@ -18,8 +18,8 @@ module _ {V S R A B C : Type 0} (k : Ghosts V S R A B C) (size : ℕ) (rows : Li
 
   -- a full sum below the reach is closed; any other leaves lost
   abbrev pub settled : S → V
-  settled s = cond (nat_le 36 (k.weight s) && nat_lt (k.oldest s) k.reach) (k.closed s) k.lost
+  settled s = cond (nat_le 36 (k.weight s) && nat_lt (k.oldest s) k.REACH) (k.closed s) k.lost
 
-  -- the value of the entry, lost where the length passes the reach
+  -- the value of the entry, which is lost for a length beyond the reach
   unfoldable pub entry_value : ℕ → List (List ℕ) → V
-  entry_value n lists = cond (nat_le n k.reach) (settled (sum_over k.empty rolls lists)) k.lost
+  entry_value n lists = cond (nat_le n k.REACH) (settled (sum_over k.empty rolls lists)) k.lost

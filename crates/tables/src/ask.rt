@@ -1,14 +1,16 @@
 // Asking a table for an ending.
 ghost use Rattle.std.specs.Prelude.{◌≡◌, ◌*◌, length, Decides, MatchOption, MatchResult};
+ghost use Rattle.board.specs.Position.{position};
 ghost use Rattle.board.specs.Side.{counts_with_off};
+ghost use Rattle.endings.specs.Ending.{EndingFor};
 ghost use Rattle.endings.specs.Place.{place, places_of};
 ghost use Rattle.places.specs.Asked.{Size};
 ghost use Rattle.tables.specs.Asking.{AskedEnding, Answered, Unanswered};
 
-use crate::lookup::{length_at, value_at};
+use crate::lookup::{Part, value_at};
+use board::board::Board;
 use board::setup::set_up;
 use board::side::CHECKERS;
-use chance::constants::reach_of;
 use chance::kind::Chance;
 use places::place::place_of;
 use places::ways::count_of;
@@ -19,32 +21,30 @@ use refusals::refusal::Refusal;
 pub(crate) fn square(size: usize, count: usize) -> bool
     ensures { Decides result (count ≡ size * size) }
 {
-    match size.checked_mul(size) {
-        Some(all) => count == all,
-        None => false,
-    }
+    size.checked_mul(size).is_some_and(|all| count == all)
 }
 
-// The places of both sides of an ending for n, none where the counts are no such ending.
-fn ending_places(n: u8, own: &[u8; 25], other: &[u8; 25]) -> Option<(usize, usize)>
-    ensures { MatchOption result (Size n → AskedEnding n own.now other.now → ⊥) (λ ab. AskedEnding n own.now other.now × (ab.0 ≡ place n (counts_with_off own.now)) × (ab.1 ≡ place n (counts_with_off other.now))) }
+// The places of both sides of a board that is an ending for n, none where it is not.
+// Stays: n belongs to the table, and one table is asked for many boards.
+pub(crate) fn ending_places(n: u8, b: &Board) -> Option<(usize, usize)>
+    ensures { MatchOption result (Size n → EndingFor n (position b.now) → ⊥) (λ ab. EndingFor n (position b.now) × (ab.0 ≡ place n (position b.now).own) × (ab.1 ≡ place n (position b.now).other)) }
 {
-    let Ok(board) = set_up(own, other) else {
-        return None;
-    };
-    if board.own[0] == CHECKERS || board.other[0] == CHECKERS {
+    if b.own[0] == CHECKERS || b.other[0] == CHECKERS {
         return None;
     }
-    let Some(a) = place_of(n, &board.own) else {
-        return None;
-    };
-    let Some(b) = place_of(n, &board.other) else {
-        return None;
-    };
-    Some((a, b))
+    Some((place_of(n, &b.own)?, place_of(n, &b.other)?))
+}
+
+// The same of the counts on points 1 to 25.
+fn asked_places(n: u8, own: &[u8; 25], other: &[u8; 25]) -> Option<(usize, usize)>
+    ensures { MatchOption result (Size n → AskedEnding n own.now other.now → ⊥) (λ ab. AskedEnding n own.now other.now × (ab.0 ≡ place n (counts_with_off own.now)) × (ab.1 ≡ place n (counts_with_off other.now))) }
+{
+    let board = set_up(own, other).ok()?;
+    ending_places(n, &board)
 }
 
 // Lower end, upper end and age of the chance of the roller, whose counts on points 1 to 25 come first.
+// A rule of the project: an ending's answer is a tuple of both ends and an age, asked of the lent parts.
 pub fn ask<K: Chance>(
     n: u8,
     own: &[u8; 25],
@@ -54,17 +54,22 @@ pub fn ask<K: Chance>(
 ) -> Result<(u64, u64, u64), Refusal>
     ensures { MatchResult result (Answered K.Chance n own.now other.now lengths.now rows.now) (Unanswered K.Chance n own.now other.now lengths.now rows.now) }
 {
-    let Some(size) = count_of(n) else {
-        return Err(Refusal::plain(Reason::TableSizeOutOfRange));
-    };
+    let size = count_of(n).ok_or(Refusal::plain(Reason::TableSizeOutOfRange))?;
     if !square(size, lengths.len()) || !square(size, rows.len()) {
         return Err(Refusal::plain(Reason::WrongPartSize));
     }
-    let Some((a, b)) = ending_places(n, own, other) else {
-        return Err(Refusal::plain(Reason::NotAnEnding));
+    let (a, b) = asked_places(n, own, other).ok_or(Refusal::plain(Reason::NotAnEnding))?;
+    // Stays: the two parts are named in full, here and in `entry`; a call that made them would take the same four names.
+    let lengths = Part {
+        size,
+        entries: lengths,
     };
-    if length_at(size, lengths, a, b) as u64 > reach_of::<K>() {
+    let rows = Part {
+        size,
+        entries: rows,
+    };
+    if u64::from(lengths.length_at(a, b)) > K::REACH {
         return Err(Refusal::plain(Reason::PastReach));
     }
-    Ok(value_at::<K>(size, rows, a, b).ends())
+    Ok(value_at::<K>(rows, a, b).ends())
 }

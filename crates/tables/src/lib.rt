@@ -4,7 +4,6 @@
 pub mod ask;
 pub mod entry;
 pub mod judging;
-pub mod led;
 pub mod lookup;
 pub mod loss;
 pub mod moving;

@@ -1,60 +1,64 @@
 // What stands in the lent parts of a table.
-ghost use Rattle.std.specs.Prelude.{◌≡◌, ℕ, ◌+◌, ◌*◌, ◌<◌, ◌≤◌, MatchOption};
+ghost use Rattle.std.specs.Prelude.{◌≡◌, ℕ, ◌+◌, ◌*◌, slice_get};
 ghost use Rattle.tables.specs.Parts.{value_in, value_after, length_at, length_after};
 
 use chance::kind::Chance;
 
-// Where the entry of the places a and b stands in a part of so many entries, or none past its end.
-fn index_in(size: usize, a: usize, b: usize, count: usize) -> Option<usize>
-    ensures { MatchOption result (count ≤ a * size + b) (λ i. (i ≡ a * size + b) × (i < count)) }
-{
-    let Some(row) = a.checked_mul(size) else {
-        return None;
-    };
-    let Some(i) = row.checked_add(b) else {
-        return None;
-    };
-    if i < count { Some(i) } else { None }
+// A lent part of a table, rows of so many entries.
+// A rule of the project: entries are plain lengths or rows, in slices that are lent.
+#[derive(Clone, Copy, Debug)]
+pub struct Part<'a, T> {
+    pub size: usize,
+    pub entries: &'a [T],
+}
+
+impl<'a, T: Copy> Part<'a, T> {
+    // The entry of the places a and b, none past the end of the part.
+    // Stays: two places are two numbers, as in the table's rule for where an entry stands.
+    pub fn at(self, a: usize, b: usize) -> Option<T>
+        ensures { result ≡ slice_get self.entry.entries.now (a * self.entry.size + b) }
+    {
+        let i = a.checked_mul(self.size)?.checked_add(b)?;
+        self.entries.get(i).copied()
+    }
 }
 
 // The value of the entry of the places a and b, lost past the end of the part.
-pub fn value_at<K: Chance>(size: usize, rows: &[K::Row], a: usize, b: usize) -> K
-    ensures { result ≡ value_in K.Chance size rows.now a b }
+#[tactic(auto, using(crate::proofs::Reading::none_there))]
+pub fn value_at<K: Chance>(rows: Part<'_, K::Row>, a: usize, b: usize) -> K
+    ensures { result ≡ value_in K.Chance rows.entry.size rows.entry.entries.now a b }
 {
-    match index_in(size, a, b, rows.len()) {
-        Some(i) => K::read_row(rows[i]),
+    // Stays: tried with `map_or`, and the proof did not close: it has to know whether there is a row.
+    match rows.at(a, b) {
+        Some(row) => K::read_row(row),
         None => K::lost(),
     }
 }
 
 // The value after a turn that leads to the place q, with the other side on the place b.
-pub fn after_place<K: Chance>(size: usize, rows: &[K::Row], b: usize, q: usize) -> K
-    ensures { result ≡ value_after K.Chance size rows.now b q }
+pub fn after_place<K: Chance>(rows: Part<'_, K::Row>, b: usize, q: usize) -> K
+    ensures { result ≡ value_after K.Chance rows.entry.size rows.entry.entries.now b q }
 {
     if q == 0 {
         K::won()
     } else {
-        value_at::<K>(size, rows, b, q).turned()
+        value_at::<K>(rows, b, q).turned()
     }
 }
 
-// The length entry of the places a and b, 0 past the end of the part.
-pub fn length_at(size: usize, lengths: &[u8], a: usize, b: usize) -> u8
-    ensures { result ≡ length_at size lengths.now a b }
-{
-    match index_in(size, a, b, lengths.len()) {
-        Some(i) => lengths[i],
-        None => 0,
+impl<'a> Part<'a, u8> {
+    // The length entry of the places a and b, 0 past the end of the part.
+    #[tactic(auto, using(crate::proofs::Reading::length_there))]
+    pub fn length_at(self, a: usize, b: usize) -> u8
+        ensures { result ≡ length_at self.entry.size self.entry.entries.now a b }
+    {
+        self.at(a, b).unwrap_or(0)
     }
-}
 
-// The length after a turn that leads to the place q, with the other side on the place b.
-pub fn after_length(size: usize, lengths: &[u8], b: usize, q: usize) -> u8
-    ensures { result ≡ length_after size lengths.now b q }
-{
-    if q == 0 {
-        0
-    } else {
-        length_at(size, lengths, b, q)
+    // The length after a turn that leads to the place q, with the other side on the place b.
+    pub fn after_length(self, b: usize, q: usize) -> u8
+        ensures { result ≡ length_after self.entry.size self.entry.entries.now b q }
+    {
+        if q == 0 { 0 } else { self.length_at(b, q) }
     }
 }

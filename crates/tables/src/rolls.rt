@@ -1,11 +1,12 @@
 // The 21 rolls, and the places of a roll's turns.
-ghost use Rattle.std.specs.Prelude.{◌≡◌, ◌<◌, [], slice_index_or};
+ghost use Rattle.std.specs.Prelude.{◌≡◌, [], slice_index_or};
 ghost use Rattle.endings.specs.Rolls.{rolls, weight};
 ghost use Rattle.tables.specs.Moving.{place_lists};
 
 use crate::moving::SideTurns;
 
-// In the order in which they are summed.
+// In the order in which they are summed: 1-1, 2-1, 2-2, 3-1 and so on to 6-6.
+// A rule of the project: rolls are pairs of numbers.
 const ROLLS: [(u8, u8); 21] = [
     (1, 1),
     (2, 1),
@@ -30,12 +31,11 @@ const ROLLS: [(u8, u8); 21] = [
     (6, 6),
 ];
 
-// The roll of this number, from 0 to 20: 1-1, 2-1, 2-2, 3-1 and so on to 6-6.
-pub(crate) fn roll_at(i: usize) -> (u8, u8)
-    requires { i < 21 }
-    ensures { result ≡ slice_index_or rolls i (0, 0) }
+// Each roll once, as the rules list them.
+pub(crate) fn all_rolls() -> [(u8, u8); 21]
+    ensures { result ≡ rolls }
 {
-    ROLLS[i]
+    ROLLS
 }
 
 // How many of the 36 ordered rolls are this one.
@@ -46,14 +46,10 @@ pub(crate) fn weight_of(roll: (u8, u8)) -> u64
 }
 
 impl SideTurns {
-    // The places to which the turns of the roll of this number lead, none past the rolls.
+    // The places to which the turns of the roll of this number lead, none past the rolls: for callers, who cannot see the lists.
     pub fn of_roll(&self, i: usize) -> &[u16]
         ensures { result.now ≡ slice_index_or (place_lists self.now) i [] }
     {
-        if i < self.lists.len() {
-            self.lists[i].as_slice()
-        } else {
-            &[]
-        }
+        self.lists.get(i).map_or(&[], |places| places.as_slice())
     }
 }

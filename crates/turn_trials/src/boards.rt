@@ -22,13 +22,9 @@ fn the_rule_of_a_board(rt: HostRuntime) {
 
 #[test]
 fn borne_off_and_turned(rt: HostRuntime) -> Result<(), Fail> {
-    match set_up(&side(&[(3, 4)]), &side(&[(5, 1), (25, 2)])) {
-        Ok(b) => {
-            assert_eq!(rt; (b.own[0], b.other[0]), (11, 12));
-            let t = turned(&b);
-            assert_eq!(rt; (t.own[25], t.own[5], t.other[3]), (2, 1, 4));
-            Ok(())
-        }
-        Err(_) => Err(Fail::new("the board breaks its rule")),
-    }
+    let b = set_up(&side(&[(3, 4)]), &side(&[(5, 1), (25, 2)]))?;
+    assert_eq!(rt; (b.own[0], b.other[0]), (11, 12));
+    let t = turned(&b);
+    assert_eq!(rt; (t.own[25], t.own[5], t.other[3]), (2, 1, 4));
+    Ok(())
 }

@@ -8,12 +8,18 @@ use std::test::Fail;
 #[test]
 fn dice_come_first(rt: HostRuntime) {
     let b = start();
-    assert_eq!(rt; verdict(&b, (7, 1), &[(99, 9), (0, 0), (8, 3)]), (4, 0));
-    assert_eq!(rt; verdict(&b, (1, 0), &[]), (4, 0));
-    assert_eq!(rt; verdict(&b, (3, 1), &[(99, 9), (0, 0), (8, 3)]), (13, 0));
+    assert_eq!(rt;
+        verdict(&b, (7, 1), &[(99, 9), (0, 0), (8, 3)]),
+        Err((4, 0))
+    );
+    assert_eq!(rt; verdict(&b, (1, 0), &[]), Err((4, 0)));
+    assert_eq!(rt;
+        verdict(&b, (3, 1), &[(99, 9), (0, 0), (8, 3)]),
+        Err((13, 0))
+    );
     assert_eq!(rt;
         verdict(&b, (3, 3), &[(8, 3), (8, 3), (6, 3), (6, 3), (6, 3)]),
-        (13, 0)
+        Err((13, 0))
     );
 }
 
@@ -21,21 +27,21 @@ fn dice_come_first(rt: HostRuntime) {
 #[test]
 fn moves_one_by_one(rt: HostRuntime) {
     let b = start();
-    assert_eq!(rt; verdict(&b, (3, 1), &[(7, 3), (99, 1)]), (15, 1));
-    assert_eq!(rt; verdict(&b, (3, 1), &[(8, 3), (99, 1)]), (14, 2));
-    assert_eq!(rt; verdict(&b, (3, 1), &[(8, 3), (6, 3)]), (14, 2));
-    assert_eq!(rt; verdict(&b, (3, 1), &[(0, 3)]), (14, 1));
-    assert_eq!(rt; verdict(&b, (3, 1), &[(26, 3)]), (14, 1));
-    assert_eq!(rt; verdict(&b, (3, 1), &[(8, 200)]), (14, 1));
-    assert_eq!(rt; verdict(&b, (3, 1), &[(8, 3), (6, 1)]), (0, 0));
+    assert_eq!(rt; verdict(&b, (3, 1), &[(7, 3), (99, 1)]), Err((15, 1)));
+    assert_eq!(rt; verdict(&b, (3, 1), &[(8, 3), (99, 1)]), Err((14, 2)));
+    assert_eq!(rt; verdict(&b, (3, 1), &[(8, 3), (6, 3)]), Err((14, 2)));
+    assert_eq!(rt; verdict(&b, (3, 1), &[(0, 3)]), Err((14, 1)));
+    assert_eq!(rt; verdict(&b, (3, 1), &[(26, 3)]), Err((14, 1)));
+    assert_eq!(rt; verdict(&b, (3, 1), &[(8, 200)]), Err((14, 1)));
+    assert_eq!(rt; verdict(&b, (3, 1), &[(8, 3), (6, 1)]), Ok(()));
 }
 
 // A turn may not go on once the side is empty.
 #[test]
 fn nothing_behind_the_last_checker(rt: HostRuntime) -> Result<(), Fail> {
     let b = scene(&[(3, 1)], &[(1, 1)])?;
-    assert_eq!(rt; verdict(&b, (6, 5), &[(3, 5), (3, 6)]), (15, 2));
-    assert_eq!(rt; verdict(&b, (6, 5), &[(3, 5), (3, 5)]), (14, 2));
+    assert_eq!(rt; verdict(&b, (6, 5), &[(3, 5), (3, 6)]), Err((15, 2)));
+    assert_eq!(rt; verdict(&b, (6, 5), &[(3, 5), (3, 5)]), Err((14, 2)));
     Ok(())
 }
 

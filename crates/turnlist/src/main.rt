@@ -7,7 +7,7 @@ mod text;
 #[cfg(test)]
 mod trials;
 
-use anyhow::anyhow;
+use anyhow::{anyhow, ensure};
 use help::HELP;
 use session::Session;
 use std::io::{Read, Write};
@@ -19,9 +19,10 @@ fn named(rt: &HostRuntime) -> anyhow::Result<Option<String>> {
     let mut words = env::args(rt)?;
     let _ = words.next();
     let first = words.next();
-    if words.next().is_some() {
-        return Err(anyhow!("one file at most; see turnlist --help"));
-    }
+    ensure!(
+        words.next().is_none(),
+        "one file at most; see turnlist --help"
+    );
     Ok(first)
 }
 
@@ -32,44 +33,32 @@ fn input(rt: &HostRuntime, name: Option<String>) -> anyhow::Result<Vec<u8>> {
         rt.stdin().read_to_end(&mut bytes)?;
         return Ok(bytes);
     };
-    match fs::read(rt, path.as_str()) {
-        Ok(bytes) => Ok(bytes),
-        Err(error) => Err(anyhow!(format!(in rt.alloc(); "cannot read {path}: {error}")?)),
-    }
+    fs::read(rt, path.as_str()).map_err(|error| anyhow!("cannot read {path}: {error}"))
 }
 
 // Answers each line; bytes behind the last line end are a line too.
 fn answers(rt: &HostRuntime, bytes: &[u8]) -> anyhow::Result<Session> {
     let mut session = Session::new(rt.alloc());
-    let mut from = 0;
-    let mut n: usize = 1;
-    for (i, byte) in bytes.iter().enumerate() {
-        if *byte == b'\n' {
-            session.answer(rt.alloc(), &bytes[from..i], n)?;
-            from = i + 1;
-            n = n.saturating_add(1);
-        }
-    }
-    if from < bytes.len() {
-        session.answer(rt.alloc(), &bytes[from..], n)?;
+    for (before, line) in bytes.split_inclusive(|byte| *byte == b'\n').enumerate() {
+        let line = line.strip_suffix(b"\n").unwrap_or(line);
+        session.answer(rt.alloc(), line, before.saturating_add(1))?;
     }
     Ok(session)
 }
 
 fn run(rt: &HostRuntime) -> anyhow::Result<()> {
     let name = named(rt)?;
-    if let Some(word) = &name {
-        if word.as_str() == "--help" {
-            rt.stdout().write_all(HELP.as_bytes())?;
-            return Ok(());
-        }
+    if name.as_ref().is_some_and(|word| word.as_str() == "--help") {
+        rt.stdout().write_all(HELP.as_bytes())?;
+        return Ok(());
     }
     let bytes = input(rt, name)?;
     let session = answers(rt, bytes.as_slice())?;
     rt.stdout().write_all(session.out.as_bytes())?;
-    if session.faulty {
-        return Err(anyhow!("some line had no known form, see the E lines"));
-    }
+    ensure!(
+        !session.faulty,
+        "some line had no known form, see the E lines"
+    );
     Ok(())
 }
 

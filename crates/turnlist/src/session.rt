@@ -1,7 +1,6 @@
 // The answers to lines, one after another.
-use crate::text::{made_line, refusal_line, setting_line, turn_line, unknown_line};
+use crate::text::{ListedTurn, MadeMove, ShownSetting, expected};
 use commands::reading::read_command;
-use fields::moves::moves_of;
 use listing::turn::Turn;
 use replies::reply::Reply;
 use replies::replying::reply;
@@ -10,7 +9,8 @@ use std::alloc::{AllocError, Global};
 use std::fmt::Write;
 
 // The board and player due, what is to be printed, and whether a line had no known form.
-#[derive(Drop)]
+// Stays: the flag tells of the whole input, and stands for no value that is there or not.
+#[derive(Debug, Drop)]
 pub struct Session {
     setting: Setting,
     pub out: String,
@@ -18,22 +18,24 @@ pub struct Session {
 }
 
 // A roll's allowed turns: how many, and each on a line.
+// Stays: it writes several lines, each by Display.
 fn listed_lines(out: &mut String, roll: (u8, u8), turns: &[Turn]) -> Result<(), AllocError> {
     let (a, b) = roll;
     let count = turns.len();
     writeln!(out, "L {a}{b} {count}")?;
     for turn in turns {
-        turn_line(out, turn.moves())?;
+        writeln!(out, "{}", ListedTurn(turn.moves()))?;
     }
     Ok(())
 }
 
 // A turn that was made: each move on a line.
+// Stays: it writes several lines, each by Display.
 fn made_lines(out: &mut String, roll: (u8, u8), moves: &[(u8, u8)]) -> Result<(), AllocError> {
     let (a, b) = roll;
     writeln!(out, "P {a}{b}")?;
-    for m in moves {
-        made_line(out, m.0, m.1)?;
+    for (start, die) in moves {
+        writeln!(out, " {}", MadeMove(*start, *die))?;
     }
     Ok(())
 }
@@ -51,24 +53,20 @@ impl Session {
     pub fn answer(&mut self, heap: Global, line: &[u8], n: usize) -> Result<(), AllocError> {
         let Some(command) = read_command(line) else {
             self.faulty = true;
-            return unknown_line(&mut self.out, line, n);
+            writeln!(self.out, "E {n} expected {}", expected(line))?;
+            return Ok(());
         };
-        match reply(heap, &self.setting, &command) {
-            Ok(Reply::Placed(setting)) => {
-                self.setting = setting;
-                Ok(())
-            }
-            Ok(Reply::Listed(roll, turns)) => {
-                listed_lines(&mut self.out, roll, turns.as_slice())
-            }
-            Ok(Reply::Made(roll, moves, after)) => {
+        match reply(heap, &self.setting, &command)? {
+            Reply::Placed(setting) => self.setting = setting,
+            Reply::Listed(roll, turns) => listed_lines(&mut self.out, roll, turns.as_slice())?,
+            Reply::Made(roll, moves, after) => {
                 self.setting = after;
-                made_lines(&mut self.out, roll, moves_of(&moves))?;
-                setting_line(&mut self.out, &after)
+                made_lines(&mut self.out, roll, moves.moves())?;
+                writeln!(self.out, "{}", ShownSetting(&after))?;
             }
-            Ok(Reply::Refused(refusal)) => refusal_line(&mut self.out, refusal),
-            Ok(Reply::Nothing) => Ok(()),
-            Err(error) => Err(error),
+            Reply::Refused(refusal) => writeln!(self.out, "F {refusal}")?,
+            Reply::Nothing => {}
         }
+        Ok(())
     }
 }

@@ -9,10 +9,11 @@ use Rattle.board.specs.declared.board.Board.{Board}
 use Rattle.board.specs.Side.{on, checkers, less}
 use Rattle.board.specs.Position.{Position, position}
 use Rattle.board.specs.Single.{moved}
+use Rattle.turns.specs.declared.dice.Dice.{Dice}
 use Rattle.turns.specs.Roll.{Roll, rolled}
 use Rattle.turns.specs.Runs.{Move, Run, played}
-use Rattle.turns.specs.Turns.{Finishes, Allowed}
-use Rattle.turns.specs.Refused.{MoveByMove, TooFew, Smaller, Refused}
+use Rattle.turns.specs.Turns.{Finishes, AsMany, Allowed}
+use Rattle.turns.specs.Refused.{MoveByMove, Longer, TooFew, Smaller, Refused}
 use Rattle.turns.specs.Checked.{Checked}
 use Rattle.turns.proofs.Runs.{run_few}
 
@@ -46,18 +47,21 @@ not_finished b turn after e no' f = no' (f.0, ap (λ (p : Position). on p.own 0)
 abbrev AfterRun : Position → ℕ → ℕ → List Move → Refusal → Type 0
 AfterRun b x y turn = Refuse (TooFew b x y turn) (plain TooFewDice) (Refuse (Smaller b x y turn) (plain SmallerDie) Accept)
 
-module _ (b : Position) (x y : ℕ) (turn : List Move) (roll : Roll x y) (few : length turn ≤ sum (rolled x y)) where
-  counted : (e : Refusal) → MoveByMove 1 b (rolled x y) turn (AfterRun b x y turn) e → Refused b x y turn e
-  counted e f = inr (λ no'. no' roll, inr (λ many. omega arith, f))
+-- the refusals of a turn with as many moves as dice at most
+module _ (b : Position) (x y : ℕ) (turn : List Move) (dice : Dice) (roll : Roll x y × (dice.left ≡ rolled x y)) (few : length turn ≤ dice.count) where
+  counted : (e : Refusal) → MoveByMove 1 b dice.left turn (AfterRun b x y turn) e → Refused b x y turn e
+  counted e f = inr (λ no'. no' roll.0, inr (λ many. omega (arith, dice.all, ap sum roll.1), rw roll.1 at f))
 
-  pub stopped : (e : Refusal) → MoveByMove 1 b (rolled x y) turn Accept e → Refused b x y turn e
-  stopped e f = counted e (stops_first 1 b (rolled x y) turn (AfterRun b x y turn) e f)
+  pub stopped : (e : Refusal) → MoveByMove 1 b dice.left turn Accept e → Refused b x y turn e
+  stopped e f = counted e (stops_first 1 b dice.left turn (AfterRun b x y turn) e f)
 
-  pub too_few : Run b (rolled x y) turn → TooFew b x y turn → Refused b x y turn (plain TooFewDice)
-  too_few run f = counted _ (run_on 1 b (rolled x y) turn (AfterRun b x y turn) _ run (inl (f, refl)))
+  pub too_few : Run b dice.left turn → (Finishes b turn → ⊥) → Longer b dice.left turn → Refused b x y turn (plain TooFewDice)
+  too_few run no' longer = counted _ (run_on 1 b dice.left turn (AfterRun b x y turn) _ run (inl ((no', (rw roll.1 at longer)), refl)))
 
-  pub smaller : Run b (rolled x y) turn → (TooFew b x y turn → ⊥) → Smaller b x y turn → Refused b x y turn (plain SmallerDie)
-  smaller run no' f = counted _ (run_on 1 b (rolled x y) turn (AfterRun b x y turn) _ run (inr (no', inl (f, refl))))
+  pub smaller : Run b dice.left turn → AsMany b dice.left turn → Smaller b x y turn → Refused b x y turn (plain SmallerDie)
+  smaller run full f =
+      let most = rw roll.1 at full in
+      counted _ (run_on 1 b dice.left turn (AfterRun b x y turn) _ run (inr (λ g. omega (arith, most g.1.0 g.1.1, g.1.2), inl (f, refl))))
 
 refused_not_allowed : (b : Position) (x y : ℕ) (turn : List Move) (e : Refusal) → Refused b x y turn e → Roll x y × Allowed b x y turn → ⊥
 refused_not_allowed b x y turn e (inl f) a = f.0 a.0

@@ -31,19 +31,6 @@ tried-more d s m (inl k) = inl (inl k)
 tried-more d s m (inr k) = elim (cases_lt m.0 s) [ inl l ↦ inl (inr (k.0, l)) | inr l ↦ inr (omega arith, k.0) ]
 
 module _ (b : Position) (dice : List ℕ) where
-  -- what is tried anew and can be played at all was tried
-  same : (d s e t r : ℕ) → ((m : Move) → Tried e t m → 0 < on dice m.1 → Legal b m.0 m.1 → Tried d s m) → SoFar d s b dice r → SoFar e t b dice r
-  same d s e t r q f = record { some = f.some; none = bound }
-    where
-      bound : (ms : List Move) → Run b dice ms → Begins e t ms → length ms ≤ r
-      bound [] run first = omega arith
-      bound (m ∷ ms) run first = f.none (m ∷ ms) run (q m first run.0 run.1)
-
-  pub start_passed : (d s r : ℕ) → (Legal b s d → ⊥) → SoFar d s b dice r → SoFar d (s + 1) b dice r
-  start_passed d s r no' =
-      same d s d (s + 1) r
-      (λ m tried has legal. elim (tried-more d s m tried) [ inl k ↦ k | inr e ↦ absurd (no' (rw (e.0, e.1) at legal)) ])
-
   pub start_played : (d s best r : ℕ) → 0 < on dice d → Legal b s d → Most (moved b s d) (less dice d) r → SoFar d s b dice best → SoFar d (s + 1) b dice (max best (1 + r))
   start_played d s best r has legal m f =
       record {

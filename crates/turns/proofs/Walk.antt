@@ -4,9 +4,8 @@ use Rattle.refusals.specs.declared.refusal.Refusal.{Refusal}
 use Rattle.refusals.specs.declared.reason.Reason.TheVariants.{NoSuchStartOrDie, IllegalMove}
 use Rattle.refusals.specs.Fields.{refusal_at_move}
 use Rattle.refusals.specs.Order.{Accept}
-use Rattle.board.specs.Side.{less}
 use Rattle.board.specs.Position.{Position}
-use Rattle.board.specs.Single.{Legal, moved}
+use Rattle.board.specs.Single.{Legal}
 use Rattle.turns.specs.Runs.{Move, Run, played}
 use Rattle.turns.specs.Refused.{AtHand, MoveByMove}
 
@@ -28,11 +27,3 @@ module _ (p : Position) (all : List ℕ) (turn : List Move) (i : ℕ) (within : 
 
   pub not_legal : AtHand dice m → (Legal b m.0 m.1 → ⊥) → MoveByMove 1 p all turn Accept (refusal_at_move IllegalMove (i + 1))
   not_legal hand no' = on'.stops _ (rw next (inr (λ no''. no'' hand, inl (no', refl))))
-
-  pub onward : AtHand dice m → Legal b m.0 m.1 → Onward p all turn (i + 1) (moved b m.0 m.1) (less dice m.1)
-  onward hand legal =
-      record {
-        run = λ r. on'.run (rw next (hand.2, legal, r));
-        ends = (let e = on'.ends in rw next at e);
-        stops = λ e s. on'.stops e (rw next (inr (λ no'. no' hand, inr (λ no'. no' legal, rw (add-one (i + 1)) at s))));
-      }

@@ -12,7 +12,7 @@ Move = ℕ × ℕ
 abbrev pub played : Position → List Move → Position
 played b ms = fold (λ p m. moved p m.0 m.1) b ms
 
--- each move is legal on the board left before it and uses an unused die; of the number d there are `on dice d`
+-- every move is legal where its forerunners lead, and takes a die that they left; of the number d there are `on dice d`
 abbrev pub Run : Position → List ℕ → List Move → Type 0
 Run b dice [] = Unit {0}
 Run b dice (m ∷ ms) = (0 < on dice m.1) × Legal b m.0 m.1 × Run (moved b m.0 m.1) (less dice m.1) ms

@@ -10,11 +10,11 @@ use Rattle.turns.specs.Runs.{Move, Run, played}
 abbrev pub Playable : Position → ℕ → Type 0
 Playable b d = (s : ℕ) × Legal b s d
 
--- the last move bears off the side's last checker
+-- it ends with the last checker borne off
 abbrev pub Finishes : Position → List Move → Type 0
 Finishes b turn = (0 < length turn) × (on (played b turn).own 0 ≡ checkers)
 
--- as many dice as any run of the roll
+-- no run of the roll uses more dice
 abbrev pub AsMany : Position → List ℕ → List Move → Type 0
 AsMany b dice turn = (ms : List Move) → Run b dice ms → length ms ≤ length turn
 

@@ -1,20 +1,30 @@
 // Whether a turn is allowed.
-ghost use Rattle.std.specs.Prelude.{◌≡◌, ◌<◌, length, is_ok, Decides, MatchBool, ◌≢◌};
-ghost use Rattle.board.specs.Side.{on, checkers};
+ghost use Rattle.std.specs.Prelude.{◌≡◌, ◌<◌, length, is_ok, Decides, MatchBool, MatchOption, ◌≢◌};
+ghost use Rattle.board.specs.Side.{on, checkers, less};
 ghost use Rattle.board.specs.Position.{position};
 ghost use Rattle.turns.specs.Roll.{Roll};
 ghost use Rattle.turns.specs.Turns.{Allowed, AsMany, Larger};
-ghost use Rattle.turns.specs.Refused.{Longer};
+ghost use Rattle.turns.specs.Refused.{AtHand, Longer};
 ghost use Rattle.turns.specs.Checked.{Walked, Checked};
 
 use crate::dice::Dice;
 use crate::most::{most, playable};
 use crate::roll::dice_of;
 use board::board::Board;
-use board::side::CHECKERS;
 use board::single::make;
 use refusals::reason::Reason;
 use refusals::refusal::Refusal;
+
+// The dice left for the moves behind one from s by the die d, if s is a point or the bar and d is at hand.
+fn dice_behind(dice: &Dice, s: u8, d: u8) -> Option<Dice>
+    ensures { MatchOption result (AtHand dice.now.left (s, d) → ⊥)
+        (λ rest. AtHand dice.now.left (s, d) × (rest.left ≡ less dice.now.left d)) }
+{
+    if !(1..=25).contains(&s) {
+        return None;
+    }
+    dice.without(d)
+}
 
 // Plays the moves of a turn one by one.
 fn walk(b: &Board, dice: &Dice, turn: &[(u8, u8)]) -> Result<Board, Refusal>
@@ -22,20 +32,9 @@ fn walk(b: &Board, dice: &Dice, turn: &[(u8, u8)]) -> Result<Board, Refusal>
 {
     let mut board = *b;
     let mut left = *dice;
-    for (i, m) in turn.iter().enumerate() {
-        let s = m.0;
-        let d = m.1;
-        if s < 1 || s > 25 {
-            return Err(Refusal::at_move(Reason::NoSuchStartOrDie, i + 1));
-        }
-        let Some(rest) = left.without(d) else {
-            return Err(Refusal::at_move(Reason::NoSuchStartOrDie, i + 1));
-        };
-        let Some(after) = make(&board, s, d) else {
-            return Err(Refusal::at_move(Reason::IllegalMove, i + 1));
-        };
-        board = after;
-        left = rest;
+    for (i, &(s, d)) in turn.iter().enumerate() {
+        left = dice_behind(&left, s, d).ok_or(Refusal::at_move(Reason::NoSuchStartOrDie, i + 1))?;
+        board = make(&board, s, d).ok_or(Refusal::at_move(Reason::IllegalMove, i + 1))?;
     }
     Ok(board)
 }
@@ -44,7 +43,7 @@ fn walk(b: &Board, dice: &Dice, turn: &[(u8, u8)]) -> Result<Board, Refusal>
 fn finished(turn: &[(u8, u8)], after: &Board) -> bool
     ensures { Decides result ((0 < length turn.now) × (on after.now.own 0 ≡ checkers)) }
 {
-    turn.len() > 0 && after.own[0] == CHECKERS
+    !turn.is_empty() && after.finished()
 }
 
 // Whether some run uses more dice than the turn.
@@ -58,9 +57,11 @@ fn too_few(b: &Board, dice: &Dice, turn: &[(u8, u8)]) -> bool
 fn smaller_used(roll: (u8, u8), turn: &[(u8, u8)]) -> bool
     ensures { Decides result ((length turn.now ≡ 1) × (roll.0 ≢ roll.1) × (Larger roll.0 roll.1 turn.now → ⊥)) }
 {
-    turn.len() == 1 && roll.0 != roll.1 && turn[0].1 != roll.0.max(roll.1)
+    matches!(turn, [(_, d)] if roll.0 != roll.1 && *d != roll.0.max(roll.1))
 }
 
+// The board that the turn leads to if the roll allows it, or the first refusal that applies.
+// Stays: a function of its own, so that `exactly` is shown once of its answer, and not at each return.
 fn judged(b: &Board, roll: (u8, u8), turn: &[(u8, u8)]) -> Result<Board, Refusal>
     ensures { Checked (position b.now) roll.0 roll.1 turn.now result }
 {
@@ -81,7 +82,8 @@ fn judged(b: &Board, roll: (u8, u8), turn: &[(u8, u8)]) -> Result<Board, Refusal
     Ok(after)
 }
 
-// The board after an allowed turn of the roll, or the first refusal that applies.
+// Judges a turn of the roll; the turns allowed are exactly those with a board after them.
+// Stays: board, roll and turn are three parameters, since a listing has no turn and a turn is tested after its roll.
 pub fn check_turn(b: &Board, roll: (u8, u8), turn: &[(u8, u8)]) -> Result<Board, Refusal>
     ensures answer { Checked (position b.now) roll.0 roll.1 turn.now result }
     ensures exactly { Decides (is_ok result) (Roll roll.0 roll.1 × Allowed (position b.now) roll.0 roll.1 turn.now) }

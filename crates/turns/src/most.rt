@@ -8,18 +8,13 @@ use crate::dice::Dice;
 use board::board::Board;
 use board::single::{legal, make};
 
-// Whether no run can use more dice.
-fn all_used(best: usize, dice: &Dice) -> bool
-    ensures { Decides result (best ≡ dice.now.count) }
-{
-    best == dice.count
-}
-
 // The most dice that a run on the board can use.
 pub fn most(b: &Board, dice: &Dice) -> usize
     ensures most { Most (position b.now) dice.now.left result }
     ensures few { result ≤ dice.now.count }
 {
+    // A rule of the project: every legal move is made, and the same is asked of the board behind it.
+    // Stays: the search ends with the best so far once it uses all dice, which no chain tells as plainly.
     let mut best: usize = 0;
     for d in 1..7 {
         let Some(rest) = dice.without(d) else {
@@ -30,7 +25,7 @@ pub fn most(b: &Board, dice: &Dice) -> usize
                 continue;
             };
             best = best.max(1 + most(&after, &rest));
-            if all_used(best, dice) {
+            if best == dice.count {
                 return best;
             }
         }
@@ -42,10 +37,5 @@ pub fn most(b: &Board, dice: &Dice) -> usize
 pub fn playable(b: &Board, d: u8) -> bool
     ensures { Decides result (Playable (position b.now) d) }
 {
-    for s in 1..26 {
-        if legal(b, s, d) {
-            return true;
-        }
-    }
-    false
+    (1..26).any(|s| legal(b, s, d))
 }

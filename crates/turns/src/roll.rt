@@ -11,20 +11,21 @@ use refusals::reason::Reason;
 use refusals::refusal::Refusal;
 
 // The dice of a roll: two, and four of one number where they are equal.
+// A rule of the project: rolls are pairs of numbers.
 pub fn dice_of(roll: (u8, u8)) -> Result<Dice, Refusal>
     ensures { MatchResult result (λ dice. Roll roll.0 roll.1 × (dice.left ≡ rolled roll.0 roll.1)) (λ e. (Roll roll.0 roll.1 → ⊥) × (e ≡ plain DieOutOfRange)) }
 {
     let (x, y) = roll;
-    if x < 1 || x > 6 || y < 1 || y > 6 {
+    if !(1..=6).contains(&x) || !(1..=6).contains(&y) {
         return Err(Refusal::plain(Reason::DieOutOfRange));
     }
     let mut left = [0; 7];
     if x == y {
-        left[x as usize] = 4;
+        left[usize::from(x)] = 4;
         return Ok(Dice { left, count: 4 });
     }
-    left[x as usize] = 1;
-    left[y as usize] = 1;
+    left[usize::from(x)] = 1;
+    left[usize::from(y)] = 1;
     Ok(Dice { left, count: 2 })
 }
 
@@ -33,11 +34,11 @@ impl Dice {
     pub fn without(&self, d: u8) -> Option<Dice>
         ensures { MatchOption result (on self.now.left d ≡ 0) (Without self.now d) }
     {
-        if d > 6 || self.left[d as usize] == 0 {
+        if d > 6 || self.left[usize::from(d)] == 0 {
             return None;
         }
         let mut left = self.left;
-        left[d as usize] -= 1;
+        left[usize::from(d)] -= 1;
         Some(Dice {
             left,
             count: self.count - 1,

@@ -8,7 +8,7 @@ use Rattle.chance.specs.declared.kind.Chance.{Ghosts}
 use Rattle.chance.proofs.Powers.{nothing_over, greater_over}
 use Rattle.values.specs.Best.{best_from_first}
 
-module _ {V S R A B C : Type 0} (k : Ghosts V S R A B C) where
+module _ {V S R : Type 0} (k : Ghosts V S R) where
   -- the value holds a of 36 ^ n, and its age is b
   abbrev pub Aged : ℕ → V → ℕ → ℕ → Type 0
   Aged n v a b = Held k v (over36 n a) × (k.age v ≡ b)

@@ -22,7 +22,7 @@ use Rattle.values.proofs.Reaching.{reached}
 use Rattle.values.proofs.Exact.{own_left, other_left}
 use Rattle.values.proofs.Judging.{summed}
 
-module _ {V S R A B C : Type 0} (k : Ghosts V S R A B C) where
+module _ {V S R : Type 0} (k : Ghosts V S R) where
   -- two that have the same values at each ending to which p leads
   abbrev Alike : (Position → V) → (Position → V) → Position → Type 0
   Alike f g p = (q : Position) → Reached p q → f q ≡ g q
@@ -84,24 +84,24 @@ module _ {V S R A B C : Type 0} (k : Ghosts V S R A B C) where
       ∙ cond-false (off (swapped p)) _ _ (other_left p e)
       ∙ closed_alike (value_within k (length_of p)) (value_entry k) p e (λ q r. within (length_of p) q r.ending (omega (arith, r.shorter)))
 
-  pub step : (p : Position) → Ending p → length_of p ≤ k.reach → value_entry k p ≡ k.closed (sum_value k (value_entry k) p)
-  step p e o = entry_is p e ∙ cond-true (leb (length_of p) k.reach) _ _ (le-leb (length_of p) k.reach o)
+  pub step : (p : Position) → Ending p → length_of p ≤ k.REACH → value_entry k p ≡ k.closed (sum_value k (value_entry k) p)
+  step p e o = entry_is p e ∙ cond-true (leb (length_of p) k.REACH) _ _ (le-leb (length_of p) k.REACH o)
 
-  pub past : (p : Position) → Ending p → k.reach < length_of p → value_entry k p ≡ k.lost
-  past p e o = entry_is p e ∙ cond-false (leb (length_of p) k.reach) _ _ (lt-leb (length_of p) k.reach o)
+  pub past : (p : Position) → Ending p → k.REACH < length_of p → value_entry k p ≡ k.lost
+  past p e o = entry_is p e ∙ cond-false (leb (length_of p) k.REACH) _ _ (lt-leb (length_of p) k.REACH o)
 
   -- the entries hold the exact chances, by the length
-  entered_to : (n : ℕ) (p : Position) → Ending p → length_of p ≤ n → length_of p ≤ k.reach → Entered k p (value_entry k p)
+  entered_to : (n : ℕ) (p : Position) → Ending p → length_of p ≤ n → length_of p ≤ k.REACH → Entered k p (value_entry k p)
   entered_to zero p e l o = absurd (omega (arith, length_some p e))
   entered_to (suc n) p e l o =
       let s = summed k (value_entry k) p e (λ q r. entered_to n q r.ending (omega (arith, r.shorter)) (omega (arith, r.shorter))) o in
       subst (Entered k p) (sym (step p e o)) s.entered
 
-  pub entered : (p : Position) → Ending p → length_of p ≤ k.reach → Entered k p (value_entry k p)
+  pub entered : (p : Position) → Ending p → length_of p ≤ k.REACH → Entered k p (value_entry k p)
   entered p e o = entered_to (length_of p) p e (omega arith) o
 
-  pub others : (p : Position) → length_of p ≤ k.reach → Others k (value_entry k) p
+  pub others : (p : Position) → length_of p ≤ k.REACH → Others k (value_entry k) p
   others p o q r = entered q r.ending (omega (arith, r.shorter))
 
-  pub narrow : (p : Position) → Ending p → length_of p ≤ k.reach → k.upper (value_entry k p) - k.lower (value_entry k p) ≤ k.grain * length_of p
-  narrow p e o = subst (λ a. k.upper (value_entry k p) - k.lower (value_entry k p) ≤ k.grain * a) (entered p e o).age (k.rules.narrow (value_entry k p))
+  pub narrow : (p : Position) → Ending p → length_of p ≤ k.REACH → k.upper (value_entry k p) - k.lower (value_entry k p) ≤ k.GRAIN * length_of p
+  narrow p e o = subst (λ a. k.upper (value_entry k p) - k.lower (value_entry k p) ≤ k.GRAIN * a) (entered p e o).age (k.rules.narrow (value_entry k p))

@@ -27,7 +27,7 @@ use Rattle.values.proofs.Reaching.{reached}
 use Rattle.values.proofs.Bests.{Aged, best_aged}
 use Rattle.values.proofs.Sums.{Sums, as_is, empty-sum, sum_aged, closed_aged}
 
-module _ {V S R A B C : Type 0} (k : Ghosts V S R A B C) where
+module _ {V S R : Type 0} (k : Ghosts V S R) where
   -- the chance over more rolls than the length is held alike
   pub over_more : (n : ℕ) (q : Position) (v : V) → Ending q → length_of q ≤ n → Held k v (over36 (length_of q) (chance (length_of q) q)) → Held k v (over36 n (chance n q))
   unfolding exact
@@ -80,7 +80,7 @@ module _ {V S R A B C : Type 0} (k : Ghosts V S R A B C) where
         let full : 0 + sum_by weight rolls ≡ 36 = zero-add _ ∙ weights in
         as_is k n (zero-add _) full (zero-max _) (sum_aged k n (best_value k others p) (best (36 ^ n) (chance n) p) (longest_of length_of p) k.empty 0 0 0 rolls (empty-sum k n) (omega (arith, full)) (λ r i. best-of-aged n r.0 r.1 l (rolls-fine r i)))
 
-    pub summed : length_of p ≤ k.reach → Summed k others p
+    pub summed : length_of p ≤ k.REACH → Summed k others p
     unfolding chance
     summed o =
         let m : ℕ = greatest (map (longest_of length_of p) rolls) in

@@ -15,14 +15,14 @@ weight_some : (r : TwoDice) → 0 < weight r
 weight_some r = cond_both (eqb r.0 r.1) 1 2 (λ w. 0 < w) (λ _. omega arith) (λ _. omega arith)
 
 -- the sum holds total of 36 ^ n, and has this weight and greatest age
-pub record Sums {V S R A B C : Type 0} (k : Ghosts V S R A B C) (n total heavy oldest : ℕ) (s : S) : Type 0 where
+pub record Sums {V S R : Type 0} (k : Ghosts V S R) (n total heavy oldest : ℕ) (s : S) : Type 0 where
   pub by : Fraction
   pub holds : k.held s by
   pub is : Same by (over36 n total)
   pub weighs : k.weight s ≡ heavy
   pub old : k.oldest s ≡ oldest
 
-module _ {V S R A B C : Type 0} (k : Ghosts V S R A B C) where
+module _ {V S R : Type 0} (k : Ghosts V S R) where
   pub as_is : (n : ℕ) {t t' w w' a a' : ℕ} {s : S} → t ≡ t' → w ≡ w' → a ≡ a' → Sums k n t w a s → Sums k n t' w' a' s
   as_is n x y z u = record { by = u.by; holds = u.holds; is = u.is ∙ ap (λ v. v * u.by.den) x; weighs = u.weighs ∙ y; old = u.old ∙ z }
 
@@ -56,7 +56,7 @@ module _ {V S R A B C : Type 0} (k : Ghosts V S R A B C) where
       let z : max (max a (h r)) (greatest (map h rs)) ≡ max a (greatest (map h (r ∷ rs))) = omega arith in
       as_is n x y z all
 
-  pub closed_aged : (n total age : ℕ) (s : S) → Sums k n total 36 age s → age < k.reach → Aged k (suc n) (k.closed s) total (suc age)
+  pub closed_aged : (n total age : ℕ) (s : S) → Sums k n total 36 age s → age < k.REACH → Aged k (suc n) (k.closed s) total (suc age)
   closed_aged n total age s u l =
-      let young : k.oldest s < k.reach = omega (arith, u.old) in
+      let young : k.oldest s < k.REACH = omega (arith, u.old) in
       (mean_over _ _ _ n total u.by u.is (k.rules.closed_holds s u.by u.weighs young u.holds), omega (arith, k.rules.closed_age s u.weighs young, u.old))

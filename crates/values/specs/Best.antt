@@ -6,7 +6,7 @@ use Rattle.listing.specs.Order.{off, listed}
 use Rattle.chance.specs.declared.kind.Chance.{Ghosts}
 use Rattle.endings.specs.Rolls.{TwoDice, rolls, weight}
 
-module _ {V S R A B C : Type 0} (k : Ghosts V S R A B C) where
+module _ {V S R : Type 0} (k : Ghosts V S R) where
   -- what the roller has with q left: won with the last checker off, else the turned value of the other, then to roll
   abbrev pub left_value : (Position → V) → Position → V
   left_value others q =
@@ -17,7 +17,7 @@ module _ {V S R A B C : Type 0} (k : Ghosts V S R A B C) where
   abbrev pub after_value : (Position → V) → Position → List Move → V
   after_value others p t = left_value others (played p t)
 
-  -- the better of the best so far and the next, begun with the first
+  -- the first, bettered by each of the others in turn
   abbrev pub best_from_first : List V → V
   best_from_first [] = k.lost
   best_from_first (v ∷ vs) = fold k.better v vs

@@ -13,18 +13,18 @@ length_entry p =
     let rest = cond (off (swapped p)) 0 length in
     cond (off p) 0 rest
 
-module _ {V S R A B C : Type 0} (k : Ghosts V S R A B C) where
+module _ {V S R : Type 0} (k : Ghosts V S R) where
   -- won where the roller's side is empty, else lost where the other's is, else v
   abbrev pub unless_empty : Position → V → V
   unless_empty p v =
       let rest = cond (off (swapped p)) k.lost v in
       cond (off p) k.won rest
 
-  -- lost where the length passes the reach, else the closed sum over the values that others have
+  -- lost for a length beyond the reach, else the closed sum over the values that others have
   abbrev pub closed_value : (Position → V) → Position → V
   closed_value others p =
       let mean = k.closed (sum_value k others p) in
-      cond (nat_le (length_of p) k.reach) mean k.lost
+      cond (nat_le (length_of p) k.REACH) mean k.lost
 
   -- the value, reckoned over at most n rolls, where n is at least the length
   unfoldable pub value_within : ℕ → Position → V

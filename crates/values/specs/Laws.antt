@@ -26,7 +26,7 @@ pub record Reached (p q : Position) : Type 0 where
   pub ending : Ending q
   pub shorter : length_of q < length_of p
 
-module _ {V S R A B C : Type 0} (k : Ghosts V S R A B C) where
+module _ {V S R : Type 0} (k : Ghosts V S R) where
   -- v holds the exact chance of p, and its age is the length
   pub record Entered (p : Position) (v : V) : Type 0 where
     pub holds : Held k v (over36 (length_of p) (chance (length_of p) p))
@@ -49,18 +49,18 @@ module _ {V S R A B C : Type 0} (k : Ghosts V S R A B C) where
   -- over these others, the sum can be closed, and closed it holds the exact chance
   pub record Summed (others : Position → V) (p : Position) : Type 0 where
     pub full : k.weight (sum_value k others p) ≡ 36
-    pub young : k.oldest (sum_value k others p) < k.reach
+    pub young : k.oldest (sum_value k others p) < k.REACH
     pub entered : Entered p (k.closed (sum_value k others p))
 
   pub record EntriesLaw : Type 0 where
     -- an entry within the reach holds the exact chance, its age is the length, and its ends are at most a grain apart for each roll
-    pub holds : (p : Position) → Ending p → length_of p ≤ k.reach → Entered p (value_entry k p)
-    pub narrow : (p : Position) → Ending p → length_of p ≤ k.reach → k.upper (value_entry k p) - k.lower (value_entry k p) ≤ k.grain * length_of p
+    pub holds : (p : Position) → Ending p → length_of p ≤ k.REACH → Entered p (value_entry k p)
+    pub narrow : (p : Position) → Ending p → length_of p ≤ k.REACH → k.upper (value_entry k p) - k.lower (value_entry k p) ≤ k.GRAIN * length_of p
     -- so do the best of a roll and the value after an allowed turn, over the entries
-    pub bests : (p : Position) → Ending p → length_of p ≤ k.reach → Judged (value_entry k) p
+    pub bests : (p : Position) → Ending p → length_of p ≤ k.REACH → Judged (value_entry k) p
     -- and over any others that hold the exact chances of the endings to which p leads
     pub judged : (others : Position → V) (p : Position) → Ending p → Others others p → Judged others p
-    pub summed : (others : Position → V) (p : Position) → Ending p → length_of p ≤ k.reach → Others others p → Summed others p
+    pub summed : (others : Position → V) (p : Position) → Ending p → length_of p ≤ k.REACH → Others others p → Summed others p
     -- after, best and sum rest on the endings to which p leads alone
     pub after_alike : (f g : Position → V) (p : Position) (x y : ℕ) (t : List Move) → Ending p → Roll x y → Allowed p x y t → ((q : Position) → Reached p q → f q ≡ g q) → after_value k f p t ≡ after_value k g p t
     pub best_alike : (f g : Position → V) (p : Position) (x y : ℕ) → Ending p → Roll x y → ((q : Position) → Reached p q → f q ≡ g q) → best_value k f p (x, y) ≡ best_value k g p (x, y)
@@ -68,8 +68,8 @@ module _ {V S R A B C : Type 0} (k : Ghosts V S R A B C) where
     -- which value an entry is: won, lost, the closed sum over the entries, or lost past the reach
     pub won : (p : Position) → off p ≡ true → value_entry k p ≡ k.won
     pub lost : (p : Position) → off p ≡ false → off (swapped p) ≡ true → value_entry k p ≡ k.lost
-    pub step : (p : Position) → Ending p → length_of p ≤ k.reach → value_entry k p ≡ k.closed (sum_value k (value_entry k) p)
-    pub past : (p : Position) → Ending p → k.reach < length_of p → value_entry k p ≡ k.lost
+    pub step : (p : Position) → Ending p → length_of p ≤ k.REACH → value_entry k p ≡ k.closed (sum_value k (value_entry k) p)
+    pub past : (p : Position) → Ending p → k.REACH < length_of p → value_entry k p ≡ k.lost
     -- which length: in an ending the most rolls to come, 1 plus the greatest after a turn of any roll over others that have the lengths of the endings to which p leads
     pub length : (p : Position) → Ending p → length_entry p ≡ length_of p
     pub length_from : (others : Position → ℕ) (p : Position) → Ending p → ((q : Position) → Reached p q → others q ≡ length_of q) → length_of p ≡ suc (greatest (map (λ r. greatest (map (more others p) (listed p r.0 r.1))) rolls))

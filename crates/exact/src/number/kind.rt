@@ -1,29 +1,31 @@
-ghost use Rattle.std.specs.Prelude.{refl, ◌≡◌, ◌<◌};
-ghost use Rattle.chance.specs.Sums.{Fits};
-ghost use Rattle.exact.specs.Sound.{exact_scale, exact_reach};
+ghost use Rattle.std.specs.Prelude.{◌≡◌, ◌<◌, ◌≤◌, Decides};
+ghost use Rattle.exact.specs.Sound.{exact_scale, exact_reach, unit_of, Sound};
 ghost use Rattle.exact.specs.Number.{exact_lost, exact_won, exact_turned, exact_better, exact_empty, exact_added, exact_closed, ExactHeld, exact_written, exact_read};
 ghost use Rattle.exact.specs.Kept.{exact_rules};
 
 use super::{Exact, ExactRow, ExactSum};
-use crate::units::{GRAIN, REACH, SCALE, above, greater, sound, weighted};
 use chance::kind::Chance;
-use chance::number::Is;
-use chance::sums::{admit, closable, older};
+use chance::sums::{admit, closable};
 use refusals::refusal::Refusal;
 
-// The sum with a value added by a weight that fits.
-fn joined(sum: &ExactSum, by: u64, value: Exact) -> ExactSum
-    requires { Fits sum.now.weight by }
-    ensures { result ≡ exact_added sum.now by value }
+// The step between the numbers of an age.
+#[tactic(auto, using(crate::specs::Stays::unit_fits))]
+fn unit(age: u8) -> u64
+    requires { age ≤ exact_reach }
+    ensures { result ≡ unit_of age }
 {
-    ExactSum {
-        number: weighted(sum.number, by, value.number),
-        weight: sum.weight + by,
-        age: older(sum.age, value.age),
-    }
+    36u64.pow(11 - u32::from(age))
 }
 
-// The mean of a sum that is not too old.
+// Whether some value has this number and this age.
+fn sound(number: u64, age: u8) -> bool
+    ensures { Decides result (Sound number age) }
+{
+    number <= Exact::SCALE && u64::from(age) <= Exact::REACH && number.is_multiple_of(unit(age))
+}
+
+// The mean of a sum that is not too old, which is a whole number.
+#[tactic(auto, using(crate::specs::Stays::mean_sound))]
 fn mean(sum: &ExactSum) -> Exact
     requires { sum.now.age < exact_reach }
     ensures { result ≡ exact_closed sum.now }
@@ -35,27 +37,24 @@ fn mean(sum: &ExactSum) -> Exact
 }
 
 impl Chance for Exact {
+    // A rule of the project: a sum is of its kind, so what it keeps and how it is added to stand here.
     type Sum = ExactSum;
 
+    // A rule of the project: rows are plain.
     type Row = ExactRow;
 
-    type Scale = Is<SCALE>;
+    ghost SCALE = { exact_scale };
 
-    type Grain = Is<GRAIN>;
+    ghost GRAIN = { 0 };
 
-    type Reach = Is<REACH>;
+    ghost REACH = { exact_reach };
 
-    const SCALE: Is<SCALE> = Is;
+    // A rule of the project: scale, here 36^11, grain and reach are constants of the kind.
+    const SCALE: u64 = 131_621_703_842_267_136;
 
-    const GRAIN: Is<GRAIN> = Is;
+    const GRAIN: u64 = 0;
 
-    const REACH: Is<REACH> = Is;
-
-    ghost scale = { exact_scale };
-
-    ghost grain = { 0 };
-
-    ghost reach = { exact_reach };
+    const REACH: u64 = 11;
 
     ghost lower = { λ x. x.number };
 
@@ -89,14 +88,8 @@ impl Chance for Exact {
 
     ghost rules = { exact_rules };
 
-    ghost scale_is = { refl };
-
-    ghost grain_is = { refl };
-
-    ghost reach_is = { refl };
-
     fn ends(self) -> (u64, u64, u64) {
-        (self.number, self.number, self.age as u64)
+        (self.number, self.number, u64::from(self.age))
     }
 
     fn lost() -> Exact {
@@ -105,22 +98,24 @@ impl Chance for Exact {
 
     fn won() -> Exact {
         Exact {
-            number: SCALE,
+            number: Self::SCALE,
             age: 0,
         }
     }
 
+    #[tactic(auto, using(crate::specs::Stays::turned_sound))]
     fn turned(self) -> Exact {
         Exact {
-            number: above(self.number),
+            number: Self::SCALE - self.number,
             age: self.age,
         }
     }
 
+    #[tactic(auto, using(crate::specs::Stays::better_sound))]
     fn better(self, other: Exact) -> Exact {
         Exact {
-            number: greater(self.number, other.number),
-            age: older(self.age, other.age),
+            number: self.number.max(other.number),
+            age: self.age.max(other.age),
         }
     }
 
@@ -132,25 +127,24 @@ impl Chance for Exact {
         }
     }
 
+    // A rule of the project: each kind adds to a sum of its own.
+    #[tactic(auto, using(crate::specs::Stays::with_sound, crate::specs::Kept::added_not))]
     fn add(sum: &mut ExactSum, by: u64, value: Exact) -> Result<(), Refusal> {
-        match admit(sum.weight, by) {
-            Ok(()) => {
-                *sum = joined(sum, by, value);
-                Ok(())
-            }
-            Err(refusal) => Err(refusal),
-        }
+        admit(sum.weight, by)?;
+        *sum = ExactSum {
+            number: sum.number + by * value.number,
+            weight: sum.weight + by,
+            age: sum.age.max(value.age),
+        };
+        Ok(())
     }
 
+    // A rule of the project: each kind closes its own form of sum.
     fn close(sum: &mut ExactSum) -> Result<Exact, Refusal> {
-        match closable(sum.weight, sum.age as u64, REACH) {
-            Ok(()) => {
-                let value = mean(sum);
-                *sum = Self::empty();
-                Ok(value)
-            }
-            Err(refusal) => Err(refusal),
-        }
+        closable(sum.weight, u64::from(sum.age), Self::REACH)?;
+        let value = mean(sum);
+        *sum = Self::empty();
+        Ok(value)
     }
 
     fn write_row(self) -> ExactRow {
@@ -160,6 +154,7 @@ impl Chance for Exact {
         }
     }
 
+    #[tactic(auto, using(crate::specs::Kept::row_not))]
     fn read_row(from: ExactRow) -> Exact {
         if !sound(from.number, from.age) {
             return Self::lost();

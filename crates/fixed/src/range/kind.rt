@@ -1,17 +1,27 @@
-ghost use Rattle.std.specs.Prelude.{refl, ◌≡◌, ◌<◌, ◌≤◌};
+ghost use Rattle.std.specs.Prelude.{◌≡◌, ◌<◌, ◌≤◌, Decides};
 ghost use Rattle.chance.specs.Sums.{Fits};
-ghost use Rattle.fixed.specs.Sound.{fixed_scale, fixed_reach};
-ghost use Rattle.fixed.specs.Range.{fixed_lost, fixed_won, fixed_turned, fixed_better, fixed_empty, fixed_added, fixed_closed, FixedHeld, fixed_written, fixed_read};
+ghost use Rattle.fixed.specs.Sound.{fixed_scale, fixed_reach, Sound};
+ghost use Rattle.fixed.specs.Range.{fixed_lost, fixed_won, fixed_turned, fixed_better, fixed_empty, fixed_with, fixed_added, fixed_mean, fixed_closed, FixedHeld, fixed_written, fixed_read};
 ghost use Rattle.fixed.specs.Kept.{fixed_rules};
 
 use super::{Fixed, FixedRow, FixedSum};
-use crate::ends::{
-    GRAIN, REACH, SCALE, WHOLE, better_ends, mean_down, mean_up, sound, turned_ends, weighted,
-};
 use chance::kind::Chance;
-use chance::number::Is;
-use chance::sums::{admit, closable, older};
+use chance::sums::{admit, closable};
 use refusals::refusal::Refusal;
+
+// What stands for 1, as an end.
+// Stays: a cast, since a constant cannot call `try_from`.
+const WHOLE: u32 = Fixed::SCALE as u32;
+
+// Whether some value has these ends and this age.
+fn sound(lower: u32, upper: u32, age: u8) -> bool
+    ensures { Decides result (Sound lower upper age) }
+{
+    lower <= upper
+        && upper <= WHOLE
+        && upper - lower <= u32::from(age)
+        && u64::from(age) <= Fixed::REACH
+}
 
 // A range of one number, of age 0.
 fn certain(end: u32) -> Fixed
@@ -27,53 +37,38 @@ fn certain(end: u32) -> Fixed
     }
 }
 
-// The sum with a value added by a weight that fits.
-fn joined(sum: &FixedSum, by: u64, value: Fixed) -> FixedSum
-    requires { Fits sum.now.weight by }
-    ensures { result ≡ fixed_added sum.now by value }
-{
-    FixedSum {
-        lower: weighted(sum.lower, by, value.lower),
-        upper: weighted(sum.upper, by, value.upper),
-        weight: sum.weight + by,
-        age: older(sum.age, value.age),
-    }
-}
-
-// The mean of a sum that is not too old.
+// The mean of a sum that is not too old: its lower end rounded down, its upper end up.
 fn mean(sum: &FixedSum) -> Fixed
     requires { sum.now.age < fixed_reach }
     ensures { result ≡ fixed_closed sum.now }
 {
+    // Stays: casts, since a mean fits and `try_from` would bring a failure that cannot come.
     Fixed {
-        lower: mean_down(sum.lower),
-        upper: mean_up(sum.upper),
+        lower: (sum.lower / 36) as u32,
+        upper: sum.upper.div_ceil(36) as u32,
         age: sum.age + 1,
     }
 }
 
 impl Chance for Fixed {
+    // A rule of the project: a sum is of its kind, so what it keeps and how it is added to stand here.
     type Sum = FixedSum;
 
+    // A rule of the project: rows are plain.
     type Row = FixedRow;
 
-    type Scale = Is<SCALE>;
+    ghost SCALE = { fixed_scale };
 
-    type Grain = Is<GRAIN>;
+    ghost GRAIN = { 1 };
 
-    type Reach = Is<REACH>;
+    ghost REACH = { fixed_reach };
 
-    const SCALE: Is<SCALE> = Is;
+    // A rule of the project: scale, grain and reach are constants of the kind.
+    const SCALE: u64 = 1_000_000_000;
 
-    const GRAIN: Is<GRAIN> = Is;
+    const GRAIN: u64 = 1;
 
-    const REACH: Is<REACH> = Is;
-
-    ghost scale = { fixed_scale };
-
-    ghost grain = { 1 };
-
-    ghost reach = { fixed_reach };
+    const REACH: u64 = 60;
 
     ghost lower = { λ x. x.lower };
 
@@ -107,14 +102,12 @@ impl Chance for Fixed {
 
     ghost rules = { fixed_rules };
 
-    ghost scale_is = { refl };
-
-    ghost grain_is = { refl };
-
-    ghost reach_is = { refl };
-
     fn ends(self) -> (u64, u64, u64) {
-        (self.lower as u64, self.upper as u64, self.age as u64)
+        (
+            u64::from(self.lower),
+            u64::from(self.upper),
+            u64::from(self.age),
+        )
     }
 
     fn lost() -> Fixed {
@@ -126,20 +119,18 @@ impl Chance for Fixed {
     }
 
     fn turned(self) -> Fixed {
-        let (lower, upper) = turned_ends(self.lower, self.upper);
         Fixed {
-            lower,
-            upper,
+            lower: WHOLE - self.upper,
+            upper: WHOLE - self.lower,
             age: self.age,
         }
     }
 
     fn better(self, other: Fixed) -> Fixed {
-        let (lower, upper) = better_ends((self.lower, self.upper), (other.lower, other.upper));
         Fixed {
-            lower,
-            upper,
-            age: older(self.age, other.age),
+            lower: self.lower.max(other.lower),
+            upper: self.upper.max(other.upper),
+            age: self.age.max(other.age),
         }
     }
 
@@ -152,25 +143,25 @@ impl Chance for Fixed {
         }
     }
 
+    // A rule of the project: each kind adds to a sum of its own.
+    #[tactic(auto, using(crate::specs::Stays::with_sound, crate::specs::Kept::added_not))]
     fn add(sum: &mut FixedSum, by: u64, value: Fixed) -> Result<(), Refusal> {
-        match admit(sum.weight, by) {
-            Ok(()) => {
-                *sum = joined(sum, by, value);
-                Ok(())
-            }
-            Err(refusal) => Err(refusal),
-        }
+        admit(sum.weight, by)?;
+        *sum = FixedSum {
+            lower: sum.lower + by * u64::from(value.lower),
+            upper: sum.upper + by * u64::from(value.upper),
+            weight: sum.weight + by,
+            age: sum.age.max(value.age),
+        };
+        Ok(())
     }
 
+    // A rule of the project: each kind closes its own form of sum.
     fn close(sum: &mut FixedSum) -> Result<Fixed, Refusal> {
-        match closable(sum.weight, sum.age as u64, REACH) {
-            Ok(()) => {
-                let value = mean(sum);
-                *sum = Self::empty();
-                Ok(value)
-            }
-            Err(refusal) => Err(refusal),
-        }
+        closable(sum.weight, u64::from(sum.age), Self::REACH)?;
+        let value = mean(sum);
+        *sum = Self::empty();
+        Ok(value)
     }
 
     fn write_row(self) -> FixedRow {
@@ -181,6 +172,7 @@ impl Chance for Fixed {
         }
     }
 
+    #[tactic(auto, using(crate::specs::Kept::row_not))]
     fn read_row(from: FixedRow) -> Fixed {
         if !sound(from.lower, from.upper, from.age) {
             return Self::lost();

@@ -1,24 +1,19 @@
-use Rattle.std.proofs.Common.{length, sym, ap, ◌∙◌, arith}
-use Rattle.std.proofs.lemmas.List.{length-set}
-use Rattle.fields.proofs.Turns.{length-moves, no_move, moves_more, moves_done}
+use Rattle.std.proofs.Common.{◌∙◌, arith}
+use Rattle.fields.proofs.Turns.{no_move, one_more}
 use Rattle.fields.proofs.moves.read_moves.Goals as goal
 
-pub returns-in_default : goal.returns-in_default
-returns-in_default c = λ ms fine e. c.in_default.ensures (length ms) fine.0 (sym (length-moves ms) ∙ ap length e)
+pub returns-in_err-start : goal.returns-in_err-start
+returns-in_err-start c =
+    let before = c.loop-field.invariant in
+    let cut = c.in-Some.ensures.steps.1 in
+    let long = rw before.2 at cut.1 in
+    rw c.from_residual.ensures (no_move _ _ _ _ _ before.3 cut.0 cut.2 long c.in_err-start.ensures)
 
-pub returns-in_default-one_move : goal.returns-in_default-one_move
-returns-in_default-one_move c =
-    let size = c.in-Some.ensures in
-    no_move c.args.bytes.now c.loop-i.i _ (omega arith) (omega arith) c.in_default-one_move.ensures
-
-pub loop-i-preserved : goal.loop-i-preserved
-loop-i-preserved c =
-    let size = c.in-Some.ensures in
-    let m = c.in-Some-one_move.ensures in
-    let more = moves_more c.args.bytes.now c.loop-i.list c.loop-i.i _ c.in-Some-one_move.m (omega arith) (omega arith) c.loop-i.invariant.1 c.loop-i.invariant.2 m.0 m.1 in
-    (length-set c.loop-i.list c.loop-i.i c.in-Some-one_move.m ∙ c.loop-i.invariant.0, more.0, more.1)
-
-pub returns : goal.returns
-returns c =
-    let size = c.in-Some.ensures in
-    moves_done c.args.bytes.now c.loop-i.list c.loop-i.i c.in-Some.count (omega arith) size.0 size.1 c.loop-i.invariant.1 c.loop-i.invariant.2
+pub loop-field-preserved : goal.loop-field-preserved
+loop-field-preserved c =
+    let before = c.loop-field.invariant in
+    let step = c.in-Some.ensures.steps in
+    let cut = step.1 in
+    let read = c.in_ok-start.ensures in
+    let size = step.0 ∙ before.2 in
+    (omega (arith, size), tt, size, rw c.in_ok-moves.ensures (one_more _ _ _ _ _ before.3 cut.0 cut.2 _ read.0 read.1))

@@ -1,27 +1,31 @@
+use Rattle.std.proofs.Common.{◌≡◌, ◌∷◌, rules}
 use Rattle.fields.proofs.Settings.{parts, whole}
 use Rattle.fields.proofs.sides.both.Goals as goal
 
-pub returns-then-bytes-ne51 : goal.returns-then-bytes-ne51
-returns-then-bytes-ne51 c = λ x fine e. c.if-bytes-ne51.true (parts x c.args.bytes.now fine e).size
+pub returns-then-space-ne32 : goal.returns-then-space-ne32
+returns-then-space-ne32 c = λ x fine e.
+    let cut = c.in_ok-white.ensures.cases in
+    let r = (parts x _ c.in_ok-white.white.now _ fine cut.1 cut.2 e).rest in
+    let first : c.in_ok-white.rest.now ≡ c.in_ok-space.space.now ∷ c.in_ok-space.black.now = search rules in
+    c.if-space-ne32.true (cc)
 
-pub returns-then-bytes-ne32 : goal.returns-then-bytes-ne32
-returns-then-bytes-ne32 c = λ x fine e. c.if-bytes-ne32.true (parts x c.args.bytes.now fine e).space
+pub returns-in_err-side : goal.returns-in_err-side
+returns-in_err-side c = rw c.from_residual-in_err-side.ensures (λ x fine e.
+    let cut = c.in_ok-white.ensures.cases in
+    c.in_err-side.ensures x.0 fine.0 (parts x _ _ c.in_ok-white.rest.now fine cut.1 cut.2 e).white)
 
-pub returns-in_default : goal.returns-in_default
-returns-in_default c = λ x fine e. c.in_default.ensures x.0 fine.0 (parts x c.args.bytes.now fine e).white
-
-pub returns-in_default-side : goal.returns-in_default-side
-returns-in_default-side c = λ x fine e. c.in_default-side.ensures x.1 fine.1 (parts x c.args.bytes.now fine e).black
+pub returns-in_err-side-2 : goal.returns-in_err-side-2
+returns-in_err-side-2 c = rw c.from_residual-in_err-side-2.ensures (λ x fine e.
+    let cut = c.in_ok-white.ensures.cases in
+    let r = (parts x _ c.in_ok-white.white.now _ fine cut.1 cut.2 e).rest in
+    let first : c.in_ok-white.rest.now ≡ c.in_ok-space.space.now ∷ c.in_ok-space.black.now = search rules in
+    c.in_err-side-2.ensures x.1 fine.1 (cc))
 
 pub returns : goal.returns
 returns c =
-    let w = c.in-Some.ensures in
-    let b = c.in-Some-side.ensures in (
-      (w.0, b.0),
-      whole (c.in-Some.white, c.in-Some-side.black) c.args.bytes.now (record {
-        size = c.if-bytes-ne51.false;
-        white = w.1;
-        space = c.if-bytes-ne32.false;
-        black = b.1;
-      }),
-    )
+    let cut = c.in_ok-white.ensures.cases in
+    let white = c.in_ok-side.ensures in
+    let black = c.in_ok-side-2.ensures in
+    let b = black.1 in
+    let first : c.in_ok-white.rest.now ≡ c.in_ok-space.space.now ∷ c.in_ok-space.black.now = search rules in
+    ((white.0, black.0), whole (c.in_ok-side.field-0, c.in_ok-side-2.field-0) _ _ c.in_ok-white.rest.now cut.1 cut.2 (record { white = white.1; rest = cc }))

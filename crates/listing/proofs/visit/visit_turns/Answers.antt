@@ -17,4 +17,4 @@ returns-in-Ok g c =
     let most = rw roll.1 at c.most-need.ensures.most in
     let lists = listing b x y c.most-need.result c.due_die-due.result sound most c.due_die-due.ensures in
     let same : turns c.due_die-due.result c.most-need.result b (rolled x y) ≡ listed b x y = the_listing b x y _ sound lists in
-    (roll.0, rw (c.empty.ensures.0, roll.1, same) at c.visit_all.ensures)
+    (roll.0, rw (c.empty.ensures, roll.1, same) at c.visit_all.ensures)

@@ -4,7 +4,7 @@ use Rattle.places.proofs.Finding.{finding_none, finding_more, found}
 use Rattle.places.proofs.side.unranked.Goals as goal
 
 pub loop-p-init : goal.loop-p-init
-loop-p-init c = finding_none c.args.n c.args.place (omega (arith, c.requires.within, all_ways c.args.n))
+loop-p-init c = rw c.from-left.ensures (finding_none c.args.n c.args.place (omega (arith, c.requires.within, all_ways c.args.n)))
 
 pub overflow_sub-before : goal.overflow_sub-before
 overflow_sub-before c =

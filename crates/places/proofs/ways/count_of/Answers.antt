@@ -1,6 +1,7 @@
-use Rattle.std.proofs.Common.{◌∙◌, arith}
+use Rattle.std.proofs.Common.{◌∙◌, ap, arith}
+use Rattle.places.specs.Ways.{ways}
 use Rattle.places.proofs.Table.{all_ways}
 use Rattle.places.proofs.ways.count_of.Goals as goal
 
 pub returns : goal.returns
-returns c = ((omega arith, omega arith), c.ways_of.ensures.is ∙ all_ways c.args.n)
+returns c = ((omega arith, omega arith), c.ways_of.ensures.is ∙ ap (ways 6) c.from.ensures ∙ all_ways c.args.n)

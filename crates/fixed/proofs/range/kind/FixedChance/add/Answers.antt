@@ -1,10 +1,7 @@
-use Rattle.std.proofs.Common.{sym}
-use Rattle.chance.proofs.Admitted.{refused-not}
-use Rattle.fixed.specs.Kept.{added_not}
+use Rattle.std.proofs.Common.{refl}
+use Rattle.chance.proofs.Admitted.{taken_fits}
+use Rattle.fixed.specs.Kept.{is_added}
 use Rattle.fixed.proofs.range.kind.FixedChance.add.Goals as goal
 
-pub returns-in-Err : goal.returns-in-Err
-returns-in-Err c = record {
-  answer = c.in-Err.ensures;
-  left = sym (added_not _ _ c.args.value (refused-not c.in-Err.ensures));
-}
+pub returns-clause-left : goal.returns-clause-left
+returns-clause-left c = is_added c.args.sum.now c.args.by c.args.value (taken_fits c.in_ok-admit.ensures) _ _ _ _ (cc) (cc) refl c.max.ensures _

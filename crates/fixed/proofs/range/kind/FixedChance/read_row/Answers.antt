@@ -1,10 +1,6 @@
-use Rattle.std.proofs.Common.{sym, refl, ◌∙◌}
-use Rattle.std.proofs.lemmas.Bool.{true≢false}
-use Rattle.fixed.specs.Kept.{same_range, row_is, row_not}
+use Rattle.std.proofs.Common.{sym}
+use Rattle.fixed.specs.Kept.{row_is}
 use Rattle.fixed.proofs.range.kind.FixedChance.read_row.Goals as goal
 
-pub returns-then-not-sound : goal.returns-then-not-sound
-returns-then-not-sound c = c.lost.ensures ∙ sym (row_not _ (λ h. true≢false (sym (c.sound.ensures.1 h) ∙ c.if-not-sound.true)))
-
 pub returns : goal.returns
-returns c = same_range _ _ refl refl refl ∙ sym (row_is _ (c.sound.ensures.0 c.if-not-sound.false))
+returns c = sym (row_is c.args.from _)

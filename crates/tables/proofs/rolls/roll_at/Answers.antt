@@ -1,7 +1,0 @@
-use Rattle.std.proofs.Common.{refl}
-use Rattle.endings.specs.Rolls.{rolls}
-use Rattle.tables.proofs.rolls.roll_at.Goals as goal
-
-pub returns : goal.returns
-unfolding rolls
-returns c = refl
