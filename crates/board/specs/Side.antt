@@ -1,13 +1,17 @@
--- A side: 26 counts. Place 0 counts the checkers borne off, places 1 to 24 those on the points, place 25 those on the bar.
+-- A side: 26 counts of its fifteen checkers. Place 0 counts those that are not on the board, places 1 to 24 those on the points, place 25 those on the bar.
 use Rattle.std.specs.Prelude.{◌≡◌, ℕ, ◌+◌, ◌-◌, ◌<◌, ◌≤◌, List, ◌∷◌, sum, slice_index, slice_set}
 
--- how many checkers a side has, with those borne off
+-- how many checkers there are of a side, on the board and off it
 abbrev pub checkers : ℕ
 checkers = 15
 
 -- how many checkers of the side stand on the place p
 abbrev pub on : List ℕ → ℕ → ℕ
 on side p = slice_index side p
+
+-- how many a side has borne off in a game with n checkers: n less those still on the board
+abbrev pub borne_off : ℕ → List ℕ → ℕ
+borne_off n side = n - (checkers - on side 0)
 
 -- no checker is missing
 abbrev pub Complete : List ℕ → Type 0

@@ -2,9 +2,10 @@
 use Rattle.std.proofs.Common.{◌≡◌, ℕ, zero, suc, ◌-◌, ◌<◌, ◌≤◌, false, eqb, ◌⊎◌, List, inl, inr, arith}
 use Rattle.std.proofs.lemmas.List.Sums.{sum_by-drop_more, get_or-le-sum_by}
 use Rattle.std.proofs.lemmas.Bool.{cases_lt, eqb-true, ne_eqb, lt-ltb, le-ltb}
-use Rattle.board.specs.Side.{on, checkers}
+use Rattle.board.specs.Side.{on, checkers, NoneAbove}
 use Rattle.board.specs.Position.{Position}
 use Rattle.board.specs.Single.{Legal, moved}
+use Rattle.turns.specs.Roll.{Die}
 use Rattle.turns.specs.Turns.{Playable}
 use Rattle.listing.proofs.Test.{clear_from}
 use Rattle.endings.specs.Ending.{Home}
@@ -26,23 +27,26 @@ off_all side h none =
     let c = eqb-true _ 0 (clear_from side 0 h.long none) in
     omega (arith, sum_by-drop_more (λ x. x) side 0 0 (omega (arith, h.long)), c, h.complete)
 
+-- nothing stands in a checker's way
+pub nothing_blocked : (p : Position) (s d : ℕ) → Home p.own → Home p.other → (1 ≤ s) × (s ≤ 25) → 0 < on p.own s → Die d → (s < d → NoneAbove p.own s) → Legal p s d
+nothing_blocked p s d a b start has die far =
+    let low : s ≤ 6 = elim (cases_lt 6 s) [ inl l ↦ absurd (omega (arith, a.none s l start.1)) | inr l ↦ l ] in
+    record {
+      die = die;
+      start = start;
+      has = has;
+      bar = λ l. absurd (omega (arith, a.none 25 (omega arith) (omega arith)));
+      free = λ l. omega (arith, b.none (25 - (s - d)) (omega (arith, low)) (omega arith));
+      home = λ _. a.none;
+      far = far;
+    }
+
 -- any die can be played
 pub any_die : (p : Position) (d : ℕ) → Home p.own → Home p.other → on p.own 0 < checkers → 1 ≤ d → d ≤ 6 → Playable p d
 any_die p d a b m i j =
     elim (highest p.own 6 a.none) [
       | inr none ↦ absurd (omega (arith, off_all p.own a none))
-      | inl r ↦ (
-        r.0,
-        record {
-          die = (i, j);
-          start = (r.1, omega (arith, r.2));
-          has = r.3;
-          bar = λ l. absurd (omega (arith, a.none 25 (omega arith) (omega arith)));
-          free = λ l. omega (arith, b.none (25 - (r.0 - d)) (omega (arith, r.2)) (omega arith));
-          home = λ _. a.none;
-          far = λ _. r.4;
-        },
-      )
+      | inl r ↦ (r.0, nothing_blocked p r.0 d a b (r.1, omega (arith, r.2)) r.3 (i, j) (λ _. r.4))
     ]
 
 module _ (p : Position) (s d : ℕ) (a : Home p.own) (b : Home p.other) (legal : Legal p s d) where

@@ -1,8 +1,9 @@
 -- What holds of exact chances and lengths.
 use Rattle.std.specs.Prelude.{◌≡◌, ℕ, suc, ◌*◌, ◌^◌, ◌<◌, ◌≤◌, ◌⊎◌, List, length, sum_by, ◌≢◌}
-use Rattle.board.specs.Side.{on, checkers}
+use Rattle.board.specs.Side.{on, checkers, NoneAbove}
 use Rattle.board.specs.Position.{Position, swapped}
-use Rattle.turns.specs.Roll.{Roll}
+use Rattle.board.specs.Single.{Legal, moved}
+use Rattle.turns.specs.Roll.{Die, Roll}
 use Rattle.turns.specs.Runs.{Move, played}
 use Rattle.turns.specs.Turns.{Allowed}
 use Rattle.listing.specs.Order.{listed}
@@ -25,7 +26,11 @@ pub record Laws : Type 0 where
   pub bests : (whole : ℕ) (others : Position → ℕ) (p : Position) (x y : ℕ) → Sound p → Roll x y → Best whole others p (x, y) (best whole others p (x, y))
   -- a chance is at most 1
   pub at_most : (n : ℕ) (p : Position) → chance n p ≤ 36 ^ n
-  -- in an ending a move is made
+  -- in an ending a move hits nothing
+  pub nothing_hit : (p : Position) (s d : ℕ) → Ending p → Legal p s d → (moved p s d).other ≡ p.other
+  -- and nothing blocks it: any checker goes by any die, but by a die greater than its point only with none above it
+  pub nothing_blocked : (p : Position) (s d : ℕ) → Ending p → (1 ≤ s) × (s ≤ 25) → 0 < on p.own s → Die d → (s < d → NoneAbove p.own s) → Legal p s d
+  -- there a move is made with any roll
   pub moves : (p : Position) (x y : ℕ) (t : List Move) → Ending p → Roll x y → Allowed p x y t → 0 < length t
   -- a turn leads to an empty side, or to an ending of the other player with fewer pips
   pub leads : (p : Position) (x y : ℕ) (t : List Move) → Ending p → Roll x y → Allowed p x y t → (on (played p t).own 0 ≢ checkers) → Ending (swapped (played p t)) × (both_pips (swapped (played p t)) < both_pips p)

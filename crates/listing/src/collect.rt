@@ -31,7 +31,7 @@ impl Visit for Collect {
 pub fn turns_of(heap: Global, b: &Board, roll: (u8, u8)) -> Result<Vec<Turn>, Failure>
     ensures { MatchResult result (λ v. Roll roll.0 roll.1 × Holding (position b.now) roll.0 roll.1 v.items) (Unlisted roll.0 roll.1) }
 {
-    // Stays: a refused roll and want of memory part here; with `map_err` and a second `?` neither would be named.
+    // Stays: with `map_err` one failure told as the other would be a wrong type and no wrong answer; the arms say more.
     match visit_turns(b, roll, &Collect, Ok(Vec::new(heap))) {
         Ok(turns) => Ok(turns?),
         Err((refusal, _)) => Err(refusal.into()),

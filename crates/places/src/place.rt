@@ -15,7 +15,7 @@ fn ranked(n: u8, side: &[u8; 26]) -> Option<usize>
 {
     let mut left = usize::from(n);
     let mut place: usize = 0;
-    // Stays: it goes over points 6 down to 1, in the order of places, and counts no index of a list.
+    // Stays: it goes over points 6 down to 1, each with what the one before left.
     for p in (1..7).rev() {
         let rest = left.checked_sub(usize::from(side[p]))?;
         place += ways_of(p, left) - ways_of(p, rest);

@@ -38,7 +38,7 @@ fn unranked(n: u8, place: usize) -> [u8; 26]
     let mut side = [0; 26];
     let mut left = usize::from(n);
     let mut before = place;
-    // Stays: it goes over points 6 down to 1, in the order of places, and counts no index of a list.
+    // Stays: it goes over points 6 down to 1, each with what the one before left.
     for p in (1..7).rev() {
         let here = count_at(p, left, before);
         before -= ways_of(p, left) - ways_of(p, left - here);

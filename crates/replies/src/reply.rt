@@ -4,7 +4,7 @@ use listing::turn::Turn;
 use refusals::refusal::Refusal;
 use settings::setting::Setting;
 
-// Stays: a refusal is an answer of `reply`, which is printed; so is nothing.
+// Stays: a refusal and nothing are answers like the others, and whoever prints them matches them so.
 // A rule of the project: rolls are pairs of numbers.
 #[derive(Debug, Drop)]
 pub enum Reply {

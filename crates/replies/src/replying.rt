@@ -35,6 +35,7 @@ pub fn reply(heap: Global, setting: &Setting, command: &Command) -> Result<Reply
     ensures answer { IfOk result (Replied setting.now command.now) }
     ensures memory { IfErr result (λ _. NeedsMemory command.now) }
 {
+    // Stays: a refusal becomes an answer and want of memory stays a failure; no `?` does both.
     match answered(heap, setting, command) {
         Ok(reply) => Ok(reply),
         Err(Failure::Refused(refusal)) => Ok(Reply::Refused(refusal)),

@@ -59,7 +59,7 @@ pub fn ask<K: Chance>(
         return Err(Refusal::plain(Reason::WrongPartSize));
     }
     let (a, b) = asked_places(n, own, other).ok_or(Refusal::plain(Reason::NotAnEnding))?;
-    // Stays: the two parts are named in full, here and in `entry`; a call that made them would take the same four names.
+    // Stays: parts are named in full, here, in `entry` and in `roll_best`; a call that made one would take the same names.
     let lengths = Part {
         size,
         entries: lengths,

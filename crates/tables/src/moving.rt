@@ -2,7 +2,7 @@
 ghost use Rattle.std.specs.Prelude.{◌≡◌, vec_len};
 
 // For each of the 21 rolls, in their order, the places to which the turns of a side lead, in listing order.
-// Stays: a Vec of 21 and no array, since it is filled roll by roll and each step may want for memory.
+// Stays: as an array it would be filled by a closure with a clause of what each list is, to save the one ghost field.
 #[derive(Debug, Drop)]
 pub struct SideTurns {
     pub(crate) lists: Vec<Vec<u16>>,

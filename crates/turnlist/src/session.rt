@@ -1,4 +1,7 @@
 // The answers to lines, one after another.
+ghost use Rattle.std.specs.Prelude.{◌≡◌, OnOk, OnErr};
+ghost use Rattle.turnlist.specs.Session.{Fresh, left_by as leaves, AfterLine, CutShort};
+
 use crate::text::{ListedTurn, MadeMove, ShownSetting, expected};
 use commands::reading::read_command;
 use listing::turn::Turn;
@@ -18,7 +21,7 @@ pub struct Session {
 }
 
 // A roll's allowed turns: how many, and each on a line.
-// Stays: it writes several lines, each by Display.
+// Stays: a Display of all its lines would be a type for one use; each line has its own.
 fn listed_lines(out: &mut String, roll: (u8, u8), turns: &[Turn]) -> Result<(), AllocError> {
     let (a, b) = roll;
     let count = turns.len();
@@ -30,7 +33,7 @@ fn listed_lines(out: &mut String, roll: (u8, u8), turns: &[Turn]) -> Result<(), 
 }
 
 // A turn that was made: each move on a line.
-// Stays: it writes several lines, each by Display.
+// Stays: a Display of all its lines would be a type for one use; each line has its own.
 fn made_lines(out: &mut String, roll: (u8, u8), moves: &[(u8, u8)]) -> Result<(), AllocError> {
     let (a, b) = roll;
     writeln!(out, "P {a}{b}")?;
@@ -40,8 +43,35 @@ fn made_lines(out: &mut String, roll: (u8, u8), moves: &[(u8, u8)]) -> Result<()
     Ok(())
 }
 
+// What a reply prints.
+// Stays: the answers have no Display of their own, since most print several lines or none.
+fn reply_lines(out: &mut String, reply: &Reply) -> Result<(), AllocError> {
+    match reply {
+        Reply::Placed(_) | Reply::Nothing => Ok(()),
+        Reply::Listed(roll, turns) => listed_lines(out, *roll, turns.as_slice()),
+        Reply::Made(roll, moves, after) => {
+            made_lines(out, *roll, moves.moves())?;
+            writeln!(out, "{}", ShownSetting(after))
+        }
+        Reply::Refused(refusal) => writeln!(out, "F {refusal}"),
+    }
+}
+
+// The setting that a reply leaves.
+fn left_by(before: &Setting, reply: &Reply) -> Setting
+    ensures { result ≡ leaves before.now reply.now }
+{
+    match reply {
+        Reply::Placed(after) | Reply::Made(_, _, after) => *after,
+        Reply::Listed(_, _) | Reply::Refused(_) | Reply::Nothing => *before,
+    }
+}
+
 impl Session {
-    pub fn new(heap: Global) -> Session {
+    // Before any line.
+    pub fn new(heap: Global) -> Session
+        ensures { Fresh result }
+    {
         Session {
             setting: Setting::opening(),
             out: String::new(heap),
@@ -49,24 +79,17 @@ impl Session {
         }
     }
 
-    // Answers the nth line.
-    pub fn answer(&mut self, heap: Global, line: &[u8], n: usize) -> Result<(), AllocError> {
+    // Answers the nth line. What it prints is tested, and no clause tells of it.
+    pub fn answer(&mut self, heap: Global, line: &[u8], n: usize) -> Result<(), AllocError>
+        ensures ok { OnOk result (AfterLine line.now self.old self.new) }
+        ensures err { OnErr result (CutShort line.now self.old self.new) }
+    {
         let Some(command) = read_command(line) else {
             self.faulty = true;
-            writeln!(self.out, "E {n} expected {}", expected(line))?;
-            return Ok(());
+            return writeln!(self.out, "E {n} expected {}", expected(line));
         };
-        match reply(heap, &self.setting, &command)? {
-            Reply::Placed(setting) => self.setting = setting,
-            Reply::Listed(roll, turns) => listed_lines(&mut self.out, roll, turns.as_slice())?,
-            Reply::Made(roll, moves, after) => {
-                self.setting = after;
-                made_lines(&mut self.out, roll, moves.moves())?;
-                writeln!(self.out, "{}", ShownSetting(&after))?;
-            }
-            Reply::Refused(refusal) => writeln!(self.out, "F {refusal}")?,
-            Reply::Nothing => {}
-        }
-        Ok(())
+        let reply = reply(heap, &self.setting, &command)?;
+        self.setting = left_by(&self.setting, &reply);
+        reply_lines(&mut self.out, &reply)
     }
 }

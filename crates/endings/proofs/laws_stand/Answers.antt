@@ -2,6 +2,7 @@ use Rattle.endings.specs.Laws.{Laws}
 use Rattle.endings.specs.PlaceLaws.{PlaceLaws}
 use Rattle.endings.proofs.Rolls.{weights, every_roll}
 use Rattle.endings.proofs.EitherWay.{listed_turned}
+use Rattle.endings.proofs.Homes.{nothing_blocked, moved_other}
 use Rattle.endings.proofs.Chances.{best_is, chance_le}
 use Rattle.endings.proofs.Leads.{moves, turn_leads}
 use Rattle.endings.proofs.Alike.{own_same, listed_same}
@@ -21,6 +22,8 @@ chances =
       either_way = listed_turned;
       bests = best_is;
       at_most = chance_le;
+      nothing_hit = λ p s d e. moved_other p s d e.own e.other;
+      nothing_blocked = λ p s d e. nothing_blocked p s d e.own e.other;
       moves = moves;
       leads = turn_leads;
       stays = leads_for;

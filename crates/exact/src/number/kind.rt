@@ -37,7 +37,7 @@ fn mean(sum: &ExactSum) -> Exact
 }
 
 impl Chance for Exact {
-    // A rule of the project: a sum is of its kind, so what it keeps and how it is added to stand here.
+    // A rule of the project: a sum is of its kind, so how it is added to and closed stands here.
     type Sum = ExactSum;
 
     // A rule of the project: rows are plain.

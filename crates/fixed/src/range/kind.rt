@@ -51,7 +51,7 @@ fn mean(sum: &FixedSum) -> Fixed
 }
 
 impl Chance for Fixed {
-    // A rule of the project: a sum is of its kind, so what it keeps and how it is added to stand here.
+    // A rule of the project: a sum is of its kind, so how it is added to and closed stands here.
     type Sum = FixedSum;
 
     // A rule of the project: rows are plain.
