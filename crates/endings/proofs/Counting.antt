@@ -16,7 +16,7 @@ module _ {X : Type 0} (p q : X → Bool) (sub : (x : X) → p x ≡ true → q x
       elim (cases_Bool (p x))
       [ inl e ↦ omega (arith, counted (p x) e, counted (q x) (sub x e)) | inr e ↦ omega (arith, passed (p x) e) ]
 
-  count_le : (xs : List X) → count_by p xs ≤ count_by q xs
+  pub count_le : (xs : List X) → count_by p xs ≤ count_by q xs
   count_le xs = sum_by-le-sum_by (λ x. cond (p x) 1 0) (λ x. cond (q x) 1 0) xs one_le
 
   pub count_less : (x : X) (xs : List X) → In x xs → p x ≡ false → q x ≡ true → count_by p xs < count_by q xs

@@ -1,15 +1,16 @@
 -- The two dice of a roll may come in either order.
-use Rattle.std.proofs.Common.{◌≡◌, ℕ, max, eqb, List, replicate, sym, ◌∙◌, subst, inl, inr, arith}
+use Rattle.std.proofs.Common.{◌≡◌, ℕ, max, eqb, List, map, replicate, sym, ap, ◌∙◌, subst, inl, inr, arith}
 use Rattle.std.proofs.lemmas.List.{set_comm}
 use Rattle.std.proofs.lemmas.Bool.{cases_Bool, eqb-true, eqb-false, ne_eqb}
 use Rattle.board.specs.Position.{Position}
 use Rattle.turns.specs.Roll.{rolled}
 use Rattle.turns.specs.Runs.{Move, Run}
 use Rattle.turns.specs.Turns.{Allowed}
-use Rattle.listing.specs.Order.{listed}
+use Rattle.listing.specs.Order.{greatest, listed}
 use Rattle.listing.specs.Laws.{Sound}
 use Rattle.listing.proofs.Listed.{listed_is}
 use Rattle.listing.proofs.Some.{the_listing}
+use Rattle.endings.specs.Chance.{after, best}
 
 rolled_turned : (x y : ℕ) → rolled x y ≡ rolled y x
 rolled_turned x y =
@@ -34,3 +35,6 @@ listed_turned p x y o =
     let l = listed_is p x y o in
     the_listing p y x (listed p x y) o
     (record { only = λ t i. allowed_turned p x y t (l.only t i); every = λ t a. l.every t (allowed_turned p y x t a); ordered = l.ordered })
+
+pub best_turned : (w : ℕ) (f : Position → ℕ) (p : Position) (x y : ℕ) → Sound p → best w f p (x, y) ≡ best w f p (y, x)
+best_turned w f p x y o = ap (λ ts. greatest (map (after w f p) ts)) (listed_turned p x y o)

@@ -1,13 +1,15 @@
 -- Places of sides.
-use Rattle.std.proofs.Common.{◌≡◌, ℕ, zero, suc, ◌-◌, ◌<◌, ◌≤◌, true, cond, List, [], ◌∷◌, length, get_or, sum, count_by, refl, ap, ◌∙◌, inl, inr, arith}
+use Rattle.std.proofs.Common.{◌≡◌, ℕ, zero, suc, ◌-◌, ◌<◌, ◌≤◌, true, cond, leb, List, [], ◌∷◌, length, get_or, sum, count_by, refl, ap, ◌∙◌, inl, inr, arith}
 use Rattle.std.proofs.lemmas.List.{get_or-set_same, get_or-set_other}
 use Rattle.std.proofs.lemmas.List.Sums.{sum_by-cons, count_by-le-length}
+use Rattle.std.proofs.lemmas.Bool.{leb-true}
 use Rattle.board.specs.Side.{on, less, shifted}
 use Rattle.listing.specs.Listing.{In}
-use Rattle.endings.specs.Place.{before, sides, place, places_of, counts}
+use Rattle.endings.specs.Place.{before, upto, sides, place, places_of, counts}
+use Rattle.endings.proofs.Lists.{every, in_every}
 use Rattle.endings.proofs.Counting.{counted, passed, count_less}
 use Rattle.endings.proofs.Before.{not_self, in_turn, later_not, either, first-less}
-use Rattle.endings.proofs.Sorted.{Sorted, sides_all, sides_sorted}
+use Rattle.endings.proofs.Sorted.{Sorted, upto_in, sides_all, sides_sorted}
 
 -- places keep the order
 pub place-less : (n : ℕ) (a b : List ℕ) → sum (counts a) ≤ n → before (counts a) (counts b) ≡ true → place n a < place n b
@@ -65,3 +67,10 @@ place-counts n a b i j e =
 pub sizes : (places_of 1 ≡ 7) × (places_of 2 ≡ 28) × (places_of 3 ≡ 84) × (places_of 4 ≡ 210) × (places_of 5 ≡ 462) × (places_of 6 ≡ 924)
 unfolding places_of sides
 sizes = (refl, refl, refl, refl, refl, refl)
+
+small : every (λ n. leb (places_of n) 924) (upto (λ n. n ∷ []) 6) ≡ true
+unfolding places_of sides
+small = refl
+
+pub places_few : (n : ℕ) → n ≤ 6 → places_of n ≤ 924
+places_few n l = leb-true (places_of n) 924 (in_every (λ n. leb (places_of n) 924) n (upto (λ n. n ∷ []) 6) small (upto_in n (λ n. n ∷ []) 6 n l (inl refl)))

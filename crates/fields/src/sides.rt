@@ -29,8 +29,12 @@ pub fn side(bytes: &[u8]) -> Option<[u8; 25]>
     ensures { Exact FineSide side_text bytes.now result }
 {
     let digits: [u8; 25] = bytes.try_into().ok()?;
-    // Stays: `try_map` takes a Result, so a count that is none is told as an error without a value, and back.
-    digits.try_map(|digit| count_of(digit).ok_or(())).ok()
+    // Stays: each count is put at its digit's place, since `try_map` takes twice the time of a line that sets a board.
+    let mut counts = [0; 25];
+    for (i, digit) in digits.iter().enumerate() {
+        counts[i] = count_of(*digit)?;
+    }
+    Some(counts)
 }
 
 // Both sides of a board, White's first, with a space between them.
@@ -42,9 +46,10 @@ fn both(bytes: &[u8]) -> Option<Sides>
     if *space != b' ' {
         return None;
     }
+    // Black's first: where a line is too long or too short, that side has the wrong size.
     Some(Sides {
-        white: side(white)?,
         black: side(black)?,
+        white: side(white)?,
     })
 }
 

@@ -1,3 +1,4 @@
 pub mod Bests
 pub mod Means
 pub mod Parts
+pub mod Powers

@@ -20,7 +20,7 @@ module _ (b : Position) where
   none_after e last (t ∷ ts) (Err f, _, r) = none_after f last ts r
 
   -- where it sufficed to the end, the turns stand in their order
-  all_collected : (first last : Vec (Moves 4) Global) (ts : List (List Move)) → Shown Noted [] b (Ok first) ts (Ok last) → stored last.items ≡ stored first.items ++ ts
+  pub all_collected : (first last : Vec (Moves 4) Global) (ts : List (List Move)) → Shown Noted [] b (Ok first) ts (Ok last) → stored last.items ≡ stored first.items ++ ts
   all_collected first last [] r = grind (arith, append-nil (stored first.items))
   all_collected first last (t ∷ ts) (Ok now, noted, r) = all_collected now last ts r ∙ ap (λ xs. xs ++ ts) noted ∙ append_assoc (stored first.items) (t ∷ []) ts
   all_collected first last (t ∷ ts) (Err e, _, r) = absurd (none_after e last ts r)

@@ -19,13 +19,13 @@ module _ {V : Type 0} (step : V → List Move → Position → V → Type 0) (ma
   shown_append v w z (t ∷ ts) us r s = (r.0, r.1, shown_append r.0 w z ts us r.2 s)
 
   -- what is shown behind one move more
-  shown_behind : (m : Move) (v w : V) (ts : List (List Move)) → Shown step (made ++ (m ∷ [])) (moved b m.0 m.1) v ts w → Shown step made b v (map (λ t. m ∷ t) ts) w
+  pub shown_behind : (m : Move) (v w : V) (ts : List (List Move)) → Shown step (made ++ (m ∷ [])) (moved b m.0 m.1) v ts w → Shown step made b v (map (λ t. m ∷ t) ts) w
   shown_behind m v w [] r = r
   shown_behind m v w (t ∷ ts) r =
       (r.0, subst (λ ms. step v ms (played (moved b m.0 m.1) t) r.0) (append_assoc made (m ∷ []) t) r.1, shown_behind m r.0 w ts r.2)
 
   -- one turn of a loop that counts down
-  step_down : (F : ℕ → List (List Move)) (k : ℕ) (v w first : V) (all : List (List Move)) → 1 ≤ k → Shown step made b v (F k) w → Leads step made b v (down F k) first all → Leads step made b w (down F (k - 1)) first all
+  pub step_down : (F : ℕ → List (List Move)) (k : ℕ) (v w first : V) (all : List (List Move)) → 1 ≤ k → Shown step made b v (F k) w → Leads step made b v (down F k) first all → Leads step made b w (down F (k - 1)) first all
   unfolding down
   step_down F zero v w first all l s inv = absurd (omega arith)
   step_down F (suc k) v w first all l s inv =

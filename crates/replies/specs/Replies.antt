@@ -1,9 +1,7 @@
 -- What each command is answered.
-use Rattle.std.specs.Prelude.{◌≡◌, ℕ, List, Ok, Err, Result, vec_items}
+use Rattle.std.specs.Prelude.{◌≡◌, ℕ, List, Ok, Err, vec_items}
 use Rattle.refusals.specs.declared.reason.Reason.TheVariants.{DieOutOfRange, BoardRuleBroken}
 use Rattle.refusals.specs.Fields.{plain}
-use Rattle.refusals.specs.declared.failure.Failure.{Failure}
-use Rattle.refusals.specs.declared.failure.Failure.TheVariants.{Refused as refused, NoMemory}
 use Rattle.board.specs.declared.player.Player.{Player}
 use Rattle.board.specs.Moves.{moves_of}
 use Rattle.board.specs.Position.{position}
@@ -55,9 +53,3 @@ NeedsMemory (asked.Set p sides) = ⊥
 NeedsMemory (asked.List roll) = Roll roll.0 roll.1
 NeedsMemory (asked.Play roll moves) = ⊥
 NeedsMemory asked.Nothing = ⊥
-
--- the reply where there is one, with a refusal handed on as a failure
-abbrev pub Answered : Setting → Command → Result Reply Failure → Type 0
-Answered s command (Ok r) = Replied s command r
-Answered s command (Err (refused e)) = Replied s command (Refused e)
-Answered s command (Err NoMemory) = NeedsMemory command

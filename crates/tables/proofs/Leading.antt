@@ -23,7 +23,7 @@ use Rattle.tables.specs.Led.{Kept, places_led_to}
 pub place_fits : (n : ℕ) (side : List ℕ) → Size n → HomeFor n side → place n side < 924
 place_fits n side s h = omega (arith, below n side h, at_table 6 n (omega arith) s.1, all_ways n)
 
-rolls_long : length rolls ≡ 21
+pub rolls_long : length rolls ≡ 21
 unfolding rolls
 rolls_long = refl
 
@@ -47,7 +47,7 @@ module _ (n : ℕ) (b : Position) (size : Size n) where
   none_after e last (t ∷ ts) (Err f, _, r) = none_after f last ts r
 
   -- where it sufficed to the end, the places stand in their order
-  all_kept : (first last : Vec ℕ Global) (ts : List (List Move)) → Homes ts → Shown (Kept n) [] b (Ok first) ts (Ok last) → vec_items last ≡ vec_items first ++ map (λ t. place n (played b t).own) ts
+  pub all_kept : (first last : Vec ℕ Global) (ts : List (List Move)) → Homes ts → Shown (Kept n) [] b (Ok first) ts (Ok last) → vec_items last ≡ vec_items first ++ map (λ t. place n (played b t).own) ts
   all_kept first last [] homes r = grind (arith, append-nil (vec_items first))
   all_kept first last (t ∷ ts) homes (Ok now, kept, r) =
       let rest = map (λ t. place n (played b t).own) ts in

@@ -13,12 +13,12 @@ less_times a b c =
 
 -- the range from bl to bu holds pn / pd, and the one from al to au holds qn / qd, over the scale s
 module _ (s pn pd qn qd : ℕ) where
-  low : (bl au : ℕ) → bl * pd ≤ pn * s → qn * s ≤ au * qd → (bl - au) * (pd * qd) ≤ (pn * qd - qn * pd) * s
+  pub low : (bl au : ℕ) → bl * pd ≤ pn * s → qn * s ≤ au * qd → (bl - au) * (pd * qd) ≤ (pn * qd - qn * pd) * s
   low bl au f g =
       rw (less_times bl au (pd * qd), less_times (pn * qd) (qn * pd) s)
       (omega (arith, mul-le-mul_left qd f, mul-le-mul_left pd g))
 
-  high : (bu al : ℕ) → pn * s ≤ bu * pd → al * qd ≤ qn * s → (pn * qd - qn * pd) * s ≤ (bu - al) * (pd * qd)
+  pub high : (bu al : ℕ) → pn * s ≤ bu * pd → al * qd ≤ qn * s → (pn * qd - qn * pd) * s ≤ (bu - al) * (pd * qd)
   high bu al f g =
       rw (less_times bu al (pd * qd), less_times (pn * qd) (qn * pd) s)
       (omega (arith, mul-le-mul_left qd f, mul-le-mul_left pd g))

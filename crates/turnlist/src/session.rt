@@ -1,6 +1,6 @@
 // The answers to lines, one after another.
 ghost use Rattle.std.specs.Prelude.{◌≡◌, OnOk, OnErr};
-ghost use Rattle.turnlist.specs.Session.{Fresh, left_by as leaves, AfterLine, CutShort};
+ghost use Rattle.turnlist.specs.Session.{Fresh, left_by, AfterLine, CutShort};
 
 use crate::text::{ListedTurn, MadeMove, ShownSetting, expected};
 use commands::reading::read_command;
@@ -57,13 +57,13 @@ fn reply_lines(out: &mut String, reply: &Reply) -> Result<(), AllocError> {
     }
 }
 
-// The setting that a reply leaves.
-fn left_by(before: &Setting, reply: &Reply) -> Setting
-    ensures { result ≡ leaves before.now reply.now }
+// Leaves the setting as a reply does; where it stays, nothing is copied.
+fn leave(setting: &mut Setting, reply: &Reply)
+    ensures { setting.new ≡ left_by setting.old reply.now }
 {
     match reply {
-        Reply::Placed(after) | Reply::Made(_, _, after) => *after,
-        Reply::Listed(_, _) | Reply::Refused(_) | Reply::Nothing => *before,
+        Reply::Placed(after) | Reply::Made(_, _, after) => *setting = *after,
+        Reply::Listed(_, _) | Reply::Refused(_) | Reply::Nothing => {}
     }
 }
 
@@ -89,7 +89,7 @@ impl Session {
             return writeln!(self.out, "E {n} expected {}", expected(line));
         };
         let reply = reply(heap, &self.setting, &command)?;
-        self.setting = left_by(&self.setting, &reply);
+        leave(&mut self.setting, &reply);
         reply_lines(&mut self.out, &reply)
     }
 }
