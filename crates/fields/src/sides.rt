@@ -29,7 +29,7 @@ pub fn side(bytes: &[u8]) -> Option<[u8; 25]>
     ensures { Exact FineSide side_text bytes.now result }
 {
     let digits: [u8; 25] = bytes.try_into().ok()?;
-    // Stays: each count is put at its digit's place, since `try_map` takes twice the time of a line that sets a board.
+    // Stays: each count is put where its digit stands; with `try_map` a line that sets a board took twice as long.
     let mut counts = [0; 25];
     for (i, digit) in digits.iter().enumerate() {
         counts[i] = count_of(*digit)?;
